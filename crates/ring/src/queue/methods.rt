@@ -1,0 +1,88 @@
+// What a queue does, told by the list of what it holds.
+ghost use Prim.Native.Nat.{_-_};
+ghost use Rattle.ring.specs.Queue.{held};
+ghost use Rattle.ring.specs.Ring.{first, rest};
+ghost use Rattle.std.specs.Finite.{nth};
+ghost use lib.Dec.{eqb, ltb};
+ghost use lib.ListN.{length, take};
+ghost use mathlib.Core.Bool.{cond};
+ghost use mathlib.Core.List.{[], _++_, _∷_};
+ghost use mathlib.Core.Path.{_≡_};
+use crate::slots;
+use crate::slots::Ring;
+use super::Queue;
+
+impl<T: Copy, const N: usize> Queue<T, N> {
+    // An empty queue; `blank` fills its slots.
+    pub fn new(blank: T) -> Self
+        ensures { λ r. ⌜ held r ≡ [] ⌝ }
+    {
+        Queue { slots: [blank; N], marks: Ring { head: 0, len: 0 } }
+    }
+
+    // How many items wait.
+    pub fn len(&self) -> usize
+        ensures { λ r. ⌜ r ≡ length (held (now (self .entry))) ⌝ }
+    {
+        self.marks.len
+    }
+
+    // How many items more it can take.
+    pub fn room(&self) -> usize
+        ensures { λ r. ⌜ r ≡ N - length (held (now (self .entry))) ⌝ }
+    {
+        N - self.marks.len
+    }
+
+    pub fn is_empty(&self) -> bool
+        ensures { λ r. ⌜ r ≡ eqb (length (held (now (self .entry)))) 0 ⌝ }
+    {
+        self.marks.len == 0
+    }
+
+    // One item more at the end, or false where every slot is taken.
+    pub fn push(&mut self, x: T) -> bool
+        ensures answer { λ r. ⌜ r ≡ ltb (length (held (now (self .entry)))) N ⌝ }
+        ensures after { λ r. ⌜ held (now (self .exit)) ≡ held (now (self .entry)) ++ cond r (x ∷ []) [] ⌝ }
+    {
+        if self.marks.len == N {
+            return false;
+        }
+        let at = slots::claim(&self.slots, &mut self.marks);
+        self.slots[at] = x;
+        true
+    }
+
+    // The oldest item, which leaves the queue, or none where it is empty.
+    pub fn pop(&mut self) -> Option<T>
+        ensures answer { λ r. ⌜ r ≡ first (held (now (self .entry))) ⌝ }
+        ensures after { λ r. ⌜ held (now (self .exit)) ≡ rest (held (now (self .entry))) ⌝ }
+    {
+        slots::take(&self.slots, &mut self.marks)
+    }
+
+    // Lets every item go.
+    pub fn clear(&mut self)
+        ensures { λ _. ⌜ held (now (self .exit)) ≡ [] ⌝ }
+    {
+        self.marks.len = 0;
+    }
+    // The item that is `i` after the oldest, if there are that many.
+    pub fn get(&self, i: usize) -> Option<T>
+        ensures { λ r. ⌜ r ≡ nth (held (now (self .entry))) i ⌝ }
+    {
+        if i >= self.marks.len {
+            return None;
+        }
+        Some(slots::read(&self.slots, &self.marks, i))
+    }
+
+    // The items, oldest first, at the front of an array, and how many there are.
+    pub fn items(&self) -> ([T; N], usize)
+        ensures full { λ r. ⌜ length (r .0) ≡ N ⌝ }
+        ensures count { λ r. ⌜ r .1 ≡ length (held (now (self .entry))) ⌝ }
+        ensures items { λ r. ⌜ take (r .1) (r .0) ≡ held (now (self .entry)) ⌝ }
+    {
+        (slots::in_order(&self.slots, &self.marks), self.marks.len)
+    }
+}

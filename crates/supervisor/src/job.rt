@@ -1,0 +1,27 @@
+// A job, with what holds of each.
+ghost use mathlib.Core.Path.{_≡_};
+ghost use mathlib.Core.Bool.{true, false};
+ghost use mathlib.Core.List.{[]};
+ghost use Prim.Native.Nat.{_≤_, _^_};
+ghost use Rattle.supervisor.specs.Sound.{Balanced, Once, Later, Granted};
+ghost use Rattle.supervisor.specs.View.{task-view, mailbox-view};
+use crate::priority::Mailbox;
+use crate::task::Task;
+
+// One command with its task and its mailbox. A closed job does nothing any more.
+#[derive(Drop)]
+pub struct Job {
+    closed: bool,
+    task: Task,
+    mailbox: Mailbox,
+    // The time of the last accepted step.
+    clock: u64,
+    ghost balanced: { closed ≡ false → Balanced [] (mailbox-view mailbox) },
+    ghost once: { closed ≡ false → Once (mailbox-view mailbox) },
+    ghost later: { closed ≡ false → Later (mailbox-view mailbox) },
+    ghost granted: { Granted (task-view task) },
+    ghost timely: { clock ≤ 2 ^ 62 },
+}
+
+mod sends;
+mod steps;

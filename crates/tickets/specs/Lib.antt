@@ -1,0 +1,4 @@
+pub mod Weights
+pub mod Tickets
+pub mod Searches
+pub mod Views

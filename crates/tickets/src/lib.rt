@@ -1,0 +1,3 @@
+//! The tickets of a job.
+
+pub mod flag;
