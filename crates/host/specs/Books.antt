@@ -154,3 +154,22 @@ host-along b (e ∷ es) = host-along (host-moved b (e .0) (e .1)) es
 abbrev pub terminal-along : TerminalBook → List Event → TerminalBook
 terminal-along b [] = b
 terminal-along b (e ∷ es) = terminal-along (terminal-moved b (e .0) (e .1)) es
+
+-- the spawns among the calls of a trace
+
+abbrev pub is-spawn : Call → ℕ
+is-spawn (to-host (spawn program options way time)) = 1
+is-spawn (to-host (poll n)) = 0
+is-spawn (to-host (wait n)) = 0
+is-spawn (to-host (kill n)) = 0
+is-spawn (to-host (signal n s)) = 0
+is-spawn (to-host (cont n)) = 0
+is-spawn (to-host (let-go n)) = 0
+is-spawn (to-host (hook n state previous)) = 0
+is-spawn (to-host (routine n state previous)) = 0
+is-spawn (to-host (tell handler code)) = 0
+is-spawn (to-terminal c) = 0
+
+abbrev pub spawns-in : List Event → ℕ
+spawns-in [] = 0
+spawns-in (e ∷ es) = is-spawn (e .0) + spawns-in es

@@ -7,3 +7,4 @@ pub mod Performing
 pub mod Reporting
 pub mod Running
 pub mod Sheets
+pub mod Starts

@@ -13,6 +13,7 @@ use Rattle.supervisor.proofs.Grants.{poll-granted}
 use Rattle.supervisor.proofs.Jobs.{order-of, in-time, same-stepping}
 use Rattle.supervisor.proofs.Mailboxes.{In-order, after-poll-in}
 use Rattle.supervisor.proofs.Sheets.{then-done}
+use Rattle.supervisor.proofs.Starts.{child-step-few}
 use Rattle.supervisor.proofs.job.Job.child_step.Needs as need
 
 pub ghost-self : need.ghost-self
@@ -28,4 +29,4 @@ ghost-self g c =
 pub returns : need.returns
 returns g c =
     let j = c .args .self .now in
-    (sym (c .in-rest .ensures tt), accepted (g .H·Host .did) (g .T·Terminal .did) (g .H·Host .book) (g .T·Terminal .book) (g .H·Host .most) (g .H·Host·met .keeps) (g .T·Terminal·met .keeps) (child-step (c .args .time) (job-view j)) _ _ _ (then-done (poll-child (c .args .time) (task-view (j .task))) (watched (c .args .time) (job-view j)) (same-stepping (j .closed) _ (c .args .time) (c .after-poll .ensures) (c .poll-progress .ensures) refl) (c .poll-outcome .ensures)))
+    (sym (c .in-rest .ensures tt), accepted (g .H·Host .did) (g .T·Terminal .did) (g .H·Host .book) (g .T·Terminal .book) (g .H·Host .most) (g .H·Host·met .keeps) (g .T·Terminal·met .keeps) (child-step (c .args .time) (job-view j)) _ _ _ (child-step-few (c .args .time) (job-view j)) (then-done (poll-child (c .args .time) (task-view (j .task))) (watched (c .args .time) (job-view j)) (same-stepping (j .closed) _ (c .args .time) (c .after-poll .ensures) (c .poll-progress .ensures) refl) (c .poll-outcome .ensures)))

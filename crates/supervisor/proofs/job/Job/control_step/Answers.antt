@@ -16,6 +16,7 @@ use Rattle.supervisor.proofs.Grants.{control-granted}
 use Rattle.supervisor.proofs.Jobs.{order-of, is-open, in-time, same-stepping}
 use Rattle.supervisor.proofs.Mailboxes.{In-order, Taken-in, take-in, ending-room, settle-in}
 use Rattle.supervisor.proofs.Sheets.{then-done, silent, at-value}
+use Rattle.supervisor.proofs.Starts.{control-step-few}
 use Rattle.supervisor.proofs.job.Job.control_step.Needs as need
 
 -- a message that was taken from a mailbox in order leaves its ticket in hand
@@ -43,7 +44,7 @@ ghost-self-2 g c =
 pub returns-in-rest-receive : need.returns-in-rest-receive
 returns-in-rest-receive g c =
     let j = c .args .self .now in
-    (sym (c .in-rest .ensures tt), accepted (g .H·Host .did) (g .T·Terminal .did) (g .H·Host .book) (g .T·Terminal .book) (g .H·Host .most) (g .H·Host·met .keeps) (g .T·Terminal·met .keeps) (control-step (c .args .time) (job-view j)) _ _ _
+    (sym (c .in-rest .ensures tt), accepted (g .H·Host .did) (g .T·Terminal .did) (g .H·Host .book) (g .T·Terminal .book) (g .H·Host .most) (g .H·Host·met .keeps) (g .T·Terminal·met .keeps) (control-step (c .args .time) (job-view j)) _ _ _ (control-step-few (c .args .time) (job-view j))
       (at-value (λ (t : Taken). carry-out t (c .args .time) (job-view j)) (sym (c .in-rest-receive .ensures tt .taken))
         (silent (same-stepping (j .closed) (task-view (j .task)) (c .args .time) (ap (λ (q : QueuesView). with-queues q (mailbox-view (j .mailbox))) (c .in-rest-receive .ensures tt .idle refl)) refl refl))))
 
@@ -52,7 +53,7 @@ returns g c =
     let j = c .args .self .now in
     let message = c .in-Some-receive .message in
     let q = queues-view (c .receive .last .self) in
-    (sym (c .in-rest .ensures tt), accepted (g .H·Host .did) (g .T·Terminal .did) (g .H·Host .book) (g .T·Terminal .book) (g .H·Host .most) (g .H·Host·met .keeps) (g .T·Terminal·met .keeps) (control-step (c .args .time) (job-view j)) _ _ _
+    (sym (c .in-rest .ensures tt), accepted (g .H·Host .did) (g .T·Terminal .did) (g .H·Host .book) (g .T·Terminal .book) (g .H·Host .most) (g .H·Host·met .keeps) (g .T·Terminal·met .keeps) (control-step (c .args .time) (job-view j)) _ _ _ (control-step-few (c .args .time) (job-view j))
       (at-value (λ (t : Taken). carry-out t (c .args .time) (job-view j)) (sym (c .in-Some-receive .ensures tt .taken))
         (then-done (control (message .control) (c .args .time) (task-view (j .task))) (carried (c .args .time) (job-view j) message q)
           (same-stepping (j .closed) _ (c .args .time) (c .settle .ensures) refl (c .orders-start .ensures)) (c .control-outcome .ensures))))
