@@ -1,8 +1,8 @@
 -- A ring: items that lie one after another in a row of slots, from the last slot on to the first.
 use Prim.Native.Nat.{ℕ, _+_, _-_, _%_, _≤_}
 use Rattle.ring.specs.declared.slots.Ring.{Ring}
-use Rattle.std.specs.declared.option.Option.{Option}
 use Rattle.std.specs.declared.option.Option.the-variants.{None, Some}
+use Rattle.std.specs.declared.option.Option.{Option}
 use lib.Dec.{leb, ltb}
 use lib.ListN.{drop, length, take}
 use mathlib.Core.Bool.{Bool, cond, _&&_}
@@ -30,25 +30,25 @@ Within size ring = (ring .len ≤ size) × (ring .head ≤ size - 1)
 abbrev pub fits : ℕ → Ring → Bool
 fits size ring = leb (ring .len) size && leb (ring .head) (size - 1)
 
--- whether the marks lie within `size` slots and one is free
-abbrev pub free : ℕ → Ring → Bool
-free size ring = fits size ring && ltb (ring .len) size
+-- whether the marks lie within `size` slots and one of these is free
+abbrev pub has-room : ℕ → Ring → Bool
+has-room size ring = fits size ring && ltb (ring .len) size
 
--- whether the marks lie within `size` slots and one is taken
-abbrev pub taken : ℕ → Ring → Bool
-taken size ring = fits size ring && ltb 0 (ring .len)
+-- whether the marks lie within `size` slots and one of these holds an item
+abbrev pub has-item : ℕ → Ring → Bool
+has-item size ring = fits size ring && ltb 0 (ring .len)
 
--- the slot after the last item, of `size`
+-- of `size` slots, the one after the last item
 abbrev pub place : ℕ → Ring → ℕ
 place size ring = (ring .head + ring .len) % size
 
 -- the marks with one item more at the end
-abbrev pub longer : Ring → Ring
-longer ring = record { head = ring .head; len = ring .len + 1 }
+abbrev pub one-more : Ring → Ring
+one-more ring = record { head = ring .head; len = ring .len + 1 }
 
--- the marks without the oldest item: the head is where an item after the oldest has its place
-abbrev pub shorter : ℕ → Ring → Ring
-shorter size ring = record { head = place size (record { head = ring .head; len = 1 }); len = ring .len - 1 }
+-- the marks without the oldest item, whose slot the head then has just passed
+abbrev pub one-less : ℕ → Ring → Ring
+one-less size ring = record { head = place size (record { head = ring .head; len = 1 }); len = ring .len - 1 }
 
 -- what a take answers: the oldest item, where the marks lie within the slots
 abbrev pub oldest : {X : Type 0} → List X → Ring → Option X

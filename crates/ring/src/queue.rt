@@ -7,7 +7,7 @@ use std::alloc::AllocError;
 
 mod methods;
 
-// At most N items, first in, first out.
+// At most N items, first in, first out. `counted` lets a caller see that `len` is how many there are.
 pub struct Queue<T, const N: usize> {
     slots: [T; N],
     marks: Ring,
@@ -16,6 +16,7 @@ pub struct Queue<T, const N: usize> {
     ghost counted: { length (items slots marks) ≡ marks .len },
 }
 
+// By hand, since a struct that has ghost fields and a type parameter derives no `Clone`.
 pub impl<T: Copy, const N: usize> Clone for Queue<T, N> as QueueClone {
     ghost clones = { λ x y. y ≡ x };
 

@@ -1,3 +1,4 @@
+// Rings and queues on examples.
 use crate::queue::Queue;
 use crate::slots::Ring;
 use crate::slots::put;

@@ -8,16 +8,19 @@ ghost use lib.ListN.{length, take};
 ghost use mathlib.Core.Bool.{cond};
 ghost use mathlib.Core.List.{[], _++_, _∷_};
 ghost use mathlib.Core.Path.{_≡_};
+use super::Queue;
 use crate::slots;
 use crate::slots::Ring;
-use super::Queue;
 
 impl<T: Copy, const N: usize> Queue<T, N> {
     // An empty queue; `blank` fills its slots.
     pub fn new(blank: T) -> Self
         ensures { λ r. ⌜ held r ≡ [] ⌝ }
     {
-        Queue { slots: [blank; N], marks: Ring { head: 0, len: 0 } }
+        Queue {
+            slots: slots::filled(blank),
+            marks: Ring::EMPTY,
+        }
     }
 
     // How many items wait.
@@ -31,13 +34,14 @@ impl<T: Copy, const N: usize> Queue<T, N> {
     pub fn room(&self) -> usize
         ensures { λ r. ⌜ r ≡ N - length (held (now (self .entry))) ⌝ }
     {
-        N - self.marks.len
+        N - self.len()
     }
 
+    // Whether no item waits.
     pub fn is_empty(&self) -> bool
         ensures { λ r. ⌜ r ≡ eqb (length (held (now (self .entry)))) 0 ⌝ }
     {
-        self.marks.len == 0
+        self.len() == 0
     }
 
     // One item more at the end, or false where every slot is taken.
@@ -45,7 +49,7 @@ impl<T: Copy, const N: usize> Queue<T, N> {
         ensures answer { λ r. ⌜ r ≡ ltb (length (held (now (self .entry)))) N ⌝ }
         ensures after { λ r. ⌜ held (now (self .exit)) ≡ held (now (self .entry)) ++ cond r (x ∷ []) [] ⌝ }
     {
-        if self.marks.len == N {
+        if self.room() == 0 {
             return false;
         }
         let at = slots::claim(&self.slots, &mut self.marks);
@@ -65,13 +69,14 @@ impl<T: Copy, const N: usize> Queue<T, N> {
     pub fn clear(&mut self)
         ensures { λ _. ⌜ held (now (self .exit)) ≡ [] ⌝ }
     {
-        self.marks.len = 0;
+        self.marks = Ring::EMPTY;
     }
+
     // The item that is `i` after the oldest, if there are that many.
     pub fn get(&self, i: usize) -> Option<T>
         ensures { λ r. ⌜ r ≡ nth (held (now (self .entry))) i ⌝ }
     {
-        if i >= self.marks.len {
+        if i >= self.len() {
             return None;
         }
         Some(slots::read(&self.slots, &self.marks, i))
@@ -83,6 +88,6 @@ impl<T: Copy, const N: usize> Queue<T, N> {
         ensures count { λ r. ⌜ r .1 ≡ length (held (now (self .entry))) ⌝ }
         ensures items { λ r. ⌜ take (r .1) (r .0) ≡ held (now (self .entry)) ⌝ }
     {
-        (slots::in_order(&self.slots, &self.marks), self.marks.len)
+        (slots::in_order(&self.slots, &self.marks), self.len())
     }
 }

@@ -5,10 +5,9 @@ use native.Mathlib.Omega.{arith}
 
 pub returns : need.returns
 returns g c =
-    let s = c .args .slots .now in
-    let ring = c .args .ring .now in
     record {
       slot = search needs;
       marks = search needs;
-      items = λ x. let e = items-put s ring (c .pre .within) x (c .pre .room) in search needs;
-      count = λ xs e. length-items xs _ (omega arith) }
+      items = λ x. let e = items-put (c .args .slots .now) (c .args .ring .now) (c .pre .within) x (c .pre .room) in search needs;
+      count = λ xs e. length-items xs _ (omega arith);
+    }

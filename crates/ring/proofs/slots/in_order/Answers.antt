@@ -16,11 +16,11 @@ loop-i-again g c =
     let all = items (c .args .slots .now) (c .args .ring .now) in
     let n = length-items (c .args .slots .now) (c .args .ring .now) (omega arith) in
     let a : i < length all = omega arith in
-    let b : i < length (c .loop-i .sorted) = omega arith in
+    let b : i < length (c .loop-i .row) = omega arith in
     let f = nth-getD all i x a in
     let j : getD all i x ≡ x = cc in
     let e = take-more all i x a in
-    let k = take-more-set (c .loop-i .sorted) i x b in
+    let k = take-more-set (c .loop-i .row) i x b in
     (search needs, cc)
 
 pub returns : need.returns

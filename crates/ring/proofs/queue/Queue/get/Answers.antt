@@ -2,5 +2,5 @@ use Rattle.ring.proofs.queue.Queue.get.Needs as need
 use Rattle.std.proofs.shelf.Maps.{nth-past}
 use borrow.Author.Needs.{needs}
 
-pub returns-then-i-self : need.returns-then-i-self
-returns-then-i-self g c = search (needs, nth-past)
+pub returns-then-i-len : need.returns-then-i-len
+returns-then-i-len g c = search (needs, nth-past)

@@ -1,0 +1,3 @@
+pub mod Counts
+pub mod Histories
+pub mod Steps

@@ -1,0 +1,3 @@
+// Runs of calls on a job.
+pub mod calls;
+pub mod runs;
