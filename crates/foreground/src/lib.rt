@@ -1,0 +1,2 @@
+// The terminals whose foreground a job may grant.
+pub mod absent;

@@ -1,0 +1,4 @@
+pub mod Places
+pub mod Soundness
+pub mod Rotation
+pub mod Book

@@ -1,0 +1,4 @@
+pub mod Children
+pub mod Signals
+pub mod Roster
+pub mod Simulated

@@ -1,0 +1,5 @@
+// Hosts of a job's child processes.
+mod children;
+mod roster;
+mod signals;
+pub mod simulated;
