@@ -25,3 +25,11 @@ pub struct Job {
 
 mod sends;
 mod steps;
+
+#[cfg(test)]
+impl Job {
+    // As a control that sets the error handler leaves it.
+    pub fn set_handler(&mut self, handler: u8) {
+        self.task.settings.handler = Some(handler);
+    }
+}

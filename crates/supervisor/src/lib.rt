@@ -10,3 +10,6 @@ mod outside;
 mod parts;
 pub mod priority;
 pub mod task;
+
+#[cfg(test)]
+mod tests;
