@@ -65,8 +65,8 @@ impl Job {
     pub fn child_step<H: Host, T: Terminal>(&mut self, host: &mut H, terminal: &mut T, sheet: &mut [Record], time: u64) -> Result<Stepped, Refusal>
         ensures { λ r. ⌜ Steps (H·Host .did) (T·Terminal .did) (H·Host .book) (T·Terminal .book) Spec.child-step time (record { job = now (self .entry); host = now (host .entry); terminal = now (terminal .entry); sheet = now (sheet .entry) }) r (record { job = now (self .exit); host = now (host .exit); terminal = now (terminal .exit); sheet = now (sheet .exit) }) ⌝ }
     {
-        if let Some(refusal) = self.step_refusal(time, sheet.len()) {
-            return Err(refusal);
+        if let Some(why) = self.step_refusal(time, sheet.len()) {
+            return Err(why);
         }
         self.clock = time;
         let (outcome, records) = conduct::poll(&mut self.task, host, terminal, sheet, time);
