@@ -18,7 +18,7 @@ use Rattle.supervisor.specs.declared.answers.Stepped.{Stepped}
 use Rattle.supervisor.specs.declared.errors.Refusal.{Refusal}
 use Rattle.supervisor.specs.Job.{JobView, Stepping}
 use Rattle.supervisor.specs.Steps.{Moment, Steps}
-use Rattle.supervisor.proofs.Sheets.{journal-length}
+use Rattle.task.proofs.Sheets.{journal-length}
 use Rattle.drive.specs.Calls.{spawn-records, truth, step-done}
 use Rattle.drive.proofs.Counts.{journal-spawns, along-spawns}
 

@@ -14,7 +14,7 @@ use Rattle.host.specs.Interaction.{Interaction}
 use Rattle.host.specs.Books.{HostBook, TerminalBook}
 use Rattle.supervisor.specs.declared.errors.Refusal.{Refusal}
 use Rattle.supervisor.specs.declared.answers.Stepped.{Stepped}
-use Rattle.supervisor.specs.declared.messages.Control.the-variants as Controls
+use Rattle.task.specs.declared.messages.Control.the-variants as Controls
 use Rattle.supervisor.specs.declared.priority.Priority.the-variants.{Normal, High}
 use Rattle.supervisor.specs.Answers.{progress-number}
 use Rattle.supervisor.specs.Errors.{Refused}

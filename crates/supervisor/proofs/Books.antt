@@ -6,10 +6,10 @@ use Rattle.host.specs.Calls.{HostCall, HostReply, TerminalCall, TerminalReply, 
 use Rattle.host.specs.Interaction.{Interaction, done, ask, Traces, World, Answered}
 use Rattle.host.specs.Books.{HostBook, HostKeeps, host-moved, host-along, TerminalBook, TerminalKeeps, terminal-moved, terminal-along}
 use Rattle.supervisor.specs.declared.answers.Stepped.{Stepped}
-use Rattle.supervisor.specs.Conducts.{Conducts}
+use Rattle.task.specs.Conducts.{Conducts}
 use Rattle.supervisor.specs.Job.{Stepping}
 use Rattle.supervisor.specs.Steps.{Moment, world-at, stepping, Accepted}
-use Rattle.supervisor.proofs.Starts.{Few, few-tried}
+use Rattle.task.proofs.Starts.{Few, few-tried}
 
 module _ {H T : Type 0} (hd : H → (c : HostCall) → HostReply c → H → Type 0) (td : T → (c : TerminalCall) → TerminalReply c → T → Type 0) (hb : H → HostBook) (tb : T → TerminalBook) (most : ℕ) (hk : (h : H) (c : HostCall) (a : HostReply c) (k : H) → hd h c a k → HostKeeps most (hb h) c a (hb k)) (tk : (t : T) (c : TerminalCall) (a : TerminalReply c) (u : T) → td t c a u → TerminalKeeps (tb t) c a (tb u)) where
   host-moves : (w v : World H T) (c : Call) (a : Reply c) → Answered hd td w c a v → hb (v .host) ≡ host-moved (hb (w .host)) c a

@@ -18,7 +18,7 @@ use Rattle.supervisor.specs.declared.priority.Priority.{Priority}
 use Rattle.supervisor.specs.declared.job.Job.{Job}
 use Rattle.supervisor.specs.Mailbox.{MailboxView, queue-room, send-refusal}
 use Rattle.supervisor.specs.declared.answers.Progress.{Progress}
-use Rattle.supervisor.specs.Task.{TaskView}
+use Rattle.task.specs.Task.{TaskView}
 use Rattle.supervisor.specs.Job.{JobView, Stepping, looked, step-refusal}
 use Rattle.supervisor.specs.View.{mailbox-view}
 use Rattle.supervisor.proofs.Mailboxes.{In-order}

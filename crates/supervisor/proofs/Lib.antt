@@ -1,10 +1,4 @@
-pub mod Always
 pub mod Books
-pub mod Grants
 pub mod Jobs
 pub mod Mailboxes
-pub mod Performing
-pub mod Reporting
-pub mod Running
-pub mod Sheets
 pub mod Starts

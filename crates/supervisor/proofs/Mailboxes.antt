@@ -11,14 +11,14 @@ use Rattle.tickets.specs.declared.flag.Mark.{Mark}
 use Rattle.tickets.specs.Tickets.{Table, is-free, is-waiting, is-raised, is-taken, raise, raise-each, put, new-mark, found, vacate, free-places}
 use Rattle.tickets.specs.Weights.{weight, weigh, one-at, each}
 use Rattle.tickets.proofs.Tables.{weigh-append, weigh-each, one-at-same, raise-waiting, raise-taken, put-weight, vacate-waiting, vacate-taken, waiting-few, change-length}
-use Rattle.supervisor.specs.declared.messages.Control.{Control}
-use Rattle.supervisor.specs.declared.messages.ControlMessage.{ControlMessage}
+use Rattle.task.specs.declared.messages.Control.{Control}
+use Rattle.task.specs.declared.messages.ControlMessage.{ControlMessage}
 use Rattle.supervisor.specs.declared.priority.Priority.{Priority}
 use Rattle.supervisor.specs.declared.priority.Priority.the-variants.{Normal, High, Urgent}
-use Rattle.supervisor.specs.declared.task.Outcome.{Outcome}
-use Rattle.supervisor.specs.declared.task.Outcome.the-variants.{Settled, Ended, Joined}
-use Rattle.supervisor.specs.declared.task.PollOutcome.{PollOutcome}
-use Rattle.supervisor.specs.declared.task.PollOutcome.the-variants.{Idle, Faulted, Over}
+use Rattle.task.specs.declared.task.Outcome.{Outcome}
+use Rattle.task.specs.declared.task.Outcome.the-variants.{Settled, Ended, Joined}
+use Rattle.task.specs.declared.task.PollOutcome.{PollOutcome}
+use Rattle.task.specs.declared.task.PollOutcome.the-variants.{Idle, Faulted, Over}
 use Rattle.supervisor.specs.Mailbox.{QueuesView, MailboxView, with-queues, with-table, message, enqueued, admitted, Taken, nothing, from-queue, take-normal, take-high, take-urgent, take, raised, endings-raised, settle, after-poll}
 use Rattle.supervisor.specs.Sound.{weigh-messages, weigh-queues, weigh-waiting, Balanced, Once, Later}
 

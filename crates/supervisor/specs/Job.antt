@@ -20,13 +20,13 @@ use Rattle.supervisor.specs.declared.errors.Refusal.{Refusal}
 use Rattle.supervisor.specs.declared.errors.Refusal.the-variants.{Closed, Sheet, Clock, Number, Unknown, Waiting}
 use Rattle.supervisor.specs.declared.answers.Progress.{Progress}
 use Rattle.supervisor.specs.declared.answers.Progress.the-variants.{Idle, Handled}
-use Rattle.supervisor.specs.declared.messages.Control.{Control}
-use Rattle.supervisor.specs.declared.messages.ControlMessage.{ControlMessage}
+use Rattle.task.specs.declared.messages.Control.{Control}
+use Rattle.task.specs.declared.messages.ControlMessage.{ControlMessage}
 use Rattle.supervisor.specs.declared.priority.Priority.{Priority}
-use Rattle.supervisor.specs.declared.task.Outcome.{Outcome}
-use Rattle.supervisor.specs.declared.task.PollOutcome.{PollOutcome}
-use Rattle.supervisor.specs.Messages.{orders}
-use Rattle.supervisor.specs.Task.{TaskView, control, poll-child}
+use Rattle.task.specs.declared.task.Outcome.{Outcome}
+use Rattle.task.specs.declared.task.PollOutcome.{PollOutcome}
+use Rattle.task.specs.Messages.{orders}
+use Rattle.task.specs.Task.{TaskView, control, poll-child}
 use Rattle.supervisor.specs.Mailbox as Mail
 use Rattle.supervisor.specs.Mailbox.{QueuesView, MailboxView, with-queues, Taken, nothing, from-queue, take, settle, after-poll}
 

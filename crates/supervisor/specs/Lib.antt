@@ -1,12 +1,7 @@
 pub mod Answers
-pub mod Conducts
 pub mod Errors
 pub mod Job
 pub mod Mailbox
-pub mod Messages
-pub mod Performs
-pub mod Place
 pub mod Sound
 pub mod Steps
-pub mod Task
 pub mod View

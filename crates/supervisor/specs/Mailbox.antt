@@ -9,14 +9,14 @@ use Rattle.std.specs.declared.option.Option.the-variants.{Some, None}
 use Rattle.tickets.specs.Tickets.{Table, free-entry, raise, raise-each, put, new-mark, ticket-room, vacate}
 use Rattle.supervisor.specs.declared.errors.Refusal.{Refusal}
 use Rattle.supervisor.specs.declared.errors.Refusal.the-variants.{Queue, Tickets}
-use Rattle.supervisor.specs.declared.messages.Control.{Control}
-use Rattle.supervisor.specs.declared.messages.ControlMessage.{ControlMessage}
+use Rattle.task.specs.declared.messages.Control.{Control}
+use Rattle.task.specs.declared.messages.ControlMessage.{ControlMessage}
 use Rattle.supervisor.specs.declared.priority.Priority.{Priority}
 use Rattle.supervisor.specs.declared.priority.Priority.the-variants.{Normal, High, Urgent}
-use Rattle.supervisor.specs.declared.task.Outcome.{Outcome}
-use Rattle.supervisor.specs.declared.task.Outcome.the-variants.{Settled, Ended, Joined}
-use Rattle.supervisor.specs.declared.task.PollOutcome.{PollOutcome}
-use Rattle.supervisor.specs.declared.task.PollOutcome.the-variants.{Idle, Faulted, Over}
+use Rattle.task.specs.declared.task.Outcome.{Outcome}
+use Rattle.task.specs.declared.task.Outcome.the-variants.{Settled, Ended, Joined}
+use Rattle.task.specs.declared.task.PollOutcome.{PollOutcome}
+use Rattle.task.specs.declared.task.PollOutcome.the-variants.{Idle, Faulted, Over}
 
 -- the messages that wait, oldest first
 pub record QueuesView : Type 0 where

@@ -1,13 +1,10 @@
 -- What holds of every job that exists, whatever host and terminal it was lent.
 use mathlib.Core.Path.{_≡_}
-use mathlib.Core.Bool.{Bool, true, false}
 use mathlib.Core.List.{List, [], _∷_}
 use Prim.Native.Nat.{ℕ, _+_, _≤_, _<_}
 use Rattle.tickets.specs.Tickets.{is-waiting, is-taken}
 use Rattle.tickets.specs.Weights.{weight, weigh, one-at}
-use Rattle.host.specs.State.{is-running}
-use Rattle.supervisor.specs.declared.messages.ControlMessage.{ControlMessage}
-use Rattle.supervisor.specs.Task.{TaskView}
+use Rattle.task.specs.declared.messages.ControlMessage.{ControlMessage}
 use Rattle.supervisor.specs.Mailbox.{QueuesView, MailboxView}
 
 -- the weight of the tickets of messages, where a ticket t weighs w t
@@ -34,7 +31,3 @@ Once m = (s : ℕ) → weight is-taken (one-at s) (m .table) ≤ 1
 -- and none before it is issued
 abbrev pub Later : MailboxView → Type 0
 Later m = (s : ℕ) → m .issued < s → weight is-taken (one-at s) (m .table) ≡ 0
-
--- a grant is held only while a child runs
-abbrev pub Granted : TaskView → Type 0
-Granted t = t .foreground .grant ≡ true → is-running (t .state) ≡ true

@@ -13,9 +13,10 @@ use Rattle.host.specs.Books.{HostBook, TerminalBook, host-along, terminal-along
 use Rattle.supervisor.specs.declared.errors.Refusal.{Refusal}
 use Rattle.supervisor.specs.declared.answers.Stepped.{Stepped}
 use Rattle.supervisor.specs.declared.job.Job.{Job}
-use Rattle.supervisor.specs.Conducts.{Conducts}
+use Rattle.task.specs.Conducts.{Conducts}
 use Rattle.supervisor.specs.Job.{JobView, Stepping, step-refusal}
-use Rattle.supervisor.specs.View.{task-view, mailbox-view}
+use Rattle.task.specs.View.{task-view}
+use Rattle.supervisor.specs.View.{mailbox-view}
 
 abbrev pub job-view : Job → JobView
 job-view j = record { closed = j .closed; task = task-view (j .task); mailbox = mailbox-view (j .mailbox); clock = j .clock }

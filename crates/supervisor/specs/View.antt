@@ -1,20 +1,9 @@
 -- What a job's parts hold, as the definitions speak of it.
 use Rattle.ring.specs.Queue.{held}
 use Rattle.tickets.specs.Views.{table, last-issued}
-use Rattle.supervisor.specs.declared.task.Task.{Task}
 use Rattle.supervisor.specs.declared.priority.Queues.{Queues}
 use Rattle.supervisor.specs.declared.priority.Mailbox.{Mailbox}
-use Rattle.supervisor.specs.Task.{TaskView}
 use Rattle.supervisor.specs.Mailbox.{QueuesView, MailboxView}
-
-abbrev pub task-view : Task → TaskView
-task-view t = record {
-    command = t .command;
-    settings = t .settings;
-    state = t .state;
-    previous = t .previous;
-    foreground = record { paused = t .foreground .paused; pauses = held (t .foreground .pauses); watch = t .foreground .watch; grant = t .foreground .grant };
-  }
 
 abbrev pub queues-view : Queues → QueuesView
 queues-view q = record { normal = held (q .normal); high = held (q .high); urgent = held (q .urgent) }

@@ -3,10 +3,12 @@ ghost use mathlib.Core.Path.{_≡_};
 ghost use mathlib.Core.Bool.{true, false};
 ghost use mathlib.Core.List.{[]};
 ghost use Prim.Native.Nat.{_≤_, _^_};
-ghost use Rattle.supervisor.specs.Sound.{Balanced, Once, Later, Granted};
-ghost use Rattle.supervisor.specs.View.{task-view, mailbox-view};
+ghost use Rattle.task.specs.Task.{Granted};
+ghost use Rattle.supervisor.specs.Sound.{Balanced, Once, Later};
+ghost use Rattle.task.specs.View.{task-view};
+ghost use Rattle.supervisor.specs.View.{mailbox-view};
 use crate::priority::Mailbox;
-use crate::task::Task;
+use task::task::Task;
 
 // One command with its task and its mailbox. A closed job does nothing any more.
 #[derive(Drop)]

@@ -1,15 +1,9 @@
-// A job: one command, its state, and the controls that are sent to it.
+// A job: one command with its task, and the mailbox of the controls that are sent to it.
 pub mod answers;
-mod asking;
-mod conduct;
 pub mod errors;
 pub mod job;
 mod mailbox;
-pub mod messages;
-mod outside;
-mod parts;
 pub mod priority;
-pub mod task;
 
 #[cfg(test)]
 mod tests;

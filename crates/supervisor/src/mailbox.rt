@@ -7,13 +7,13 @@ ghost use Rattle.std.specs.declared.option.Option.the-variants.{None};
 ghost use Rattle.supervisor.specs.Mailbox as Mail;
 ghost use Rattle.supervisor.specs.View.{queues-view, mailbox-view};
 use crate::errors::Refusal;
-use crate::messages::Control;
-use crate::messages::ControlMessage;
+use task::messages::Control;
+use task::messages::ControlMessage;
 use crate::priority::Mailbox;
 use crate::priority::Priority;
 use crate::priority::Queues;
-use crate::task::Outcome;
-use crate::task::PollOutcome;
+use task::task::Outcome;
+use task::task::PollOutcome;
 use ring::queue::Queue;
 use tickets::flag::Tickets;
 

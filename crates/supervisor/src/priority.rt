@@ -1,5 +1,5 @@
 // The mailbox of a job: its queues, the tickets that wait for the child's end, and the ticket table.
-use crate::messages::ControlMessage;
+use task::messages::ControlMessage;
 use ring::queue::Queue;
 use tickets::flag::Tickets;
 

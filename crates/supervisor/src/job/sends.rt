@@ -1,19 +1,19 @@
 // Making a job, asking it, sending it controls, and looking at and collecting tickets.
 ghost use mathlib.Core.Path.{_≡_};
 ghost use mathlib.Core.Bool.{not};
-ghost use Rattle.supervisor.specs.declared.messages.Control.the-variants.{Start, Stop, NextEnding};
+ghost use Rattle.task.specs.declared.messages.Control.the-variants.{Start, Stop, NextEnding};
 ghost use Rattle.supervisor.specs.declared.priority.Priority.the-variants.{Normal, High};
 ghost use Rattle.tickets.specs.Tickets.{found};
 ghost use Rattle.supervisor.specs.Errors.{Refused};
 ghost use Rattle.supervisor.specs.Job as Spec;
 ghost use Rattle.supervisor.specs.Steps.{job-view, view-made};
 use crate::errors::Refusal;
-use crate::messages::Control;
+use task::messages::Control;
 use crate::priority::Mailbox;
 use crate::priority::Priority;
-use crate::task::Foreground;
-use crate::task::Settings;
-use crate::task::Task;
+use task::task::Foreground;
+use task::task::Settings;
+use task::task::Task;
 use host::command::Command;
 use host::command::SpawnOptions;
 use host::state::CommandState;

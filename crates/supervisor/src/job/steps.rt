@@ -5,16 +5,14 @@ ghost use Rattle.supervisor.specs.Job as Spec;
 ghost use Rattle.supervisor.specs.Steps.{job-view, Steps};
 use crate::answers::Progress;
 use crate::answers::Stepped;
-use crate::conduct;
+use task::conduct;
+use task::conduct::LEAST_PLACES;
 use crate::errors::Refusal;
-use crate::task::PollOutcome;
+use task::task::PollOutcome;
 use host::journal::Record;
 use host::process::Host;
 use host::terminal::Terminal;
 use super::Job;
-
-// The places that a step needs on its sheet.
-const LEAST_PLACES: usize = 8;
 
 // The latest time, in milliseconds.
 const LATEST: u64 = 1 << 62;
@@ -56,7 +54,9 @@ impl Job {
         let Some(message) = self.mailbox.queues.receive() else {
             return Ok(Stepped { progress: Progress::Idle, records: 0, ordered: false });
         };
-        let (outcome, records) = conduct::control(&mut self.task, host, terminal, sheet, message.control, time);
+        let Some((outcome, records)) = conduct::control(&mut self.task, host, terminal, sheet, message.control, time) else {
+            unreachable()
+        };
         self.mailbox.settle(outcome, message.ticket);
         Ok(Stepped { progress: Progress::Handled, records, ordered: message.control.orders_start() })
     }
@@ -69,7 +69,9 @@ impl Job {
             return Err(why);
         }
         self.clock = time;
-        let (outcome, records) = conduct::poll(&mut self.task, host, terminal, sheet, time);
+        let Some((outcome, records)) = conduct::poll(&mut self.task, host, terminal, sheet, time) else {
+            unreachable()
+        };
         self.mailbox.after_poll(outcome);
         Ok(Stepped { progress: poll_progress(outcome), records, ordered: false })
     }

@@ -1,7 +1,0 @@
-use mathlib.Core.Path.{refl}
-use Rattle.host.specs.Calls as Calls
-use Rattle.supervisor.proofs.Performing.{once}
-use Rattle.supervisor.proofs.outside.Outside.kill.Needs as need
-
-pub returns : need.returns
-returns g c = once (Calls.to-host (Calls.kill (c .args .child))) (c .kill-r .result) _ _ ((c .kill-r .ensures, refl), cc, refl) refl refl refl

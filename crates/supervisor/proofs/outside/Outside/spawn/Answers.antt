@@ -1,7 +1,0 @@
-use mathlib.Core.Path.{refl}
-use Rattle.host.specs.Calls as Calls
-use Rattle.supervisor.proofs.Performing.{once}
-use Rattle.supervisor.proofs.outside.Outside.spawn.Needs as need
-
-pub returns : need.returns
-returns g c = once (Calls.to-host (Calls.spawn (c .args .program) (c .args .options) (c .args .way) (c .args .time))) (c .spawn-r .result) _ _ ((c .spawn-r .ensures, refl), cc, refl) refl refl refl

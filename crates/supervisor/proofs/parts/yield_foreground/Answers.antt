@@ -1,6 +1,0 @@
-use Rattle.host.specs.Interaction.{call}
-use Rattle.supervisor.proofs.Performing.{still, and-then}
-use Rattle.supervisor.proofs.parts.yield_foreground.Needs as need
-
-pub returns-then-task : need.returns-then-task
-returns-then-task g c = simp (c .if-task .taken) (and-then (call _) _ (c .release .ensures) still)

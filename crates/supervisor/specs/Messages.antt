@@ -1,9 +1,0 @@
--- Which controls order a start.
-use mathlib.Core.Bool.{Bool, true, false}
-use Rattle.supervisor.specs.declared.messages.Control.{Control}
-use Rattle.supervisor.specs.declared.messages.Control.the-variants.{Start, Stop, NextEnding}
-
-abbrev pub orders : Control → Bool
-orders Start = true
-orders Stop = false
-orders NextEnding = false
