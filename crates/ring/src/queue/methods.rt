@@ -2,8 +2,7 @@
 ghost use Prim.Native.Nat.{_-_};
 ghost use Rattle.ring.specs.Queue.{held};
 ghost use Rattle.ring.specs.Ring.{first, rest};
-ghost use Rattle.std.specs.Finite.{nth};
-ghost use lib.Dec.{eqb, ltb};
+ghost use lib.Dec.{ltb};
 ghost use lib.ListN.{length, take};
 ghost use mathlib.Core.Bool.{cond};
 ghost use mathlib.Core.List.{[], _++_, _∷_};
@@ -24,7 +23,7 @@ impl<T: Copy, const N: usize> Queue<T, N> {
     }
 
     // How many items wait.
-    pub fn len(&self) -> usize
+    fn len(&self) -> usize
         ensures { λ r. ⌜ r ≡ length (held (now (self .entry))) ⌝ }
     {
         self.marks.len
@@ -35,13 +34,6 @@ impl<T: Copy, const N: usize> Queue<T, N> {
         ensures { λ r. ⌜ r ≡ N - length (held (now (self .entry))) ⌝ }
     {
         N - self.len()
-    }
-
-    // Whether no item waits.
-    pub fn is_empty(&self) -> bool
-        ensures { λ r. ⌜ r ≡ eqb (length (held (now (self .entry)))) 0 ⌝ }
-    {
-        self.len() == 0
     }
 
     // One item more at the end, or false where every slot is taken.
@@ -70,16 +62,6 @@ impl<T: Copy, const N: usize> Queue<T, N> {
         ensures { λ _. ⌜ held (now (self .exit)) ≡ [] ⌝ }
     {
         self.marks = Ring::EMPTY;
-    }
-
-    // The item that is `i` after the oldest, if there are that many.
-    pub fn get(&self, i: usize) -> Option<T>
-        ensures { λ r. ⌜ r ≡ nth (held (now (self .entry))) i ⌝ }
-    {
-        if i >= self.len() {
-            return None;
-        }
-        Some(slots::read(&self.slots, &self.marks, i))
     }
 
     // The items, oldest first, at the front of an array, and how many there are.
