@@ -1,31 +1,36 @@
-use Prim.Native.Nat.{_<_}
+use Prim.Native.Nat.{_<_, _≤_}
 use native.Mathlib.Omega.{arith}
 use lib.ListN.{length, getD}
 use Rattle.drive.specs.declared.calls.Call.the-variants.{Start}
 use Rattle.drive.proofs.Histories.{at-first, one-more, makes-few, all-made}
+use Rattle.drive.proofs.runs.drive.Given as given
 use Rattle.drive.proofs.runs.drive.Needs as need
+use Rattle.drive.proofs.runs.drive.Needs.{After-make-done}
+
+-- a turn's call tries at most one start, and takes at most one order
+few : (g : given.Over) (c : After-make-done g) → (c .make-done .result .tried ≤ 1) × (c .make-done .result .ordered ≤ 1)
+few g c =
+    let after = c .make-done .last in
+    makes-few (g .H·Host .did) (g .T·Terminal .did) (g .H·Host .book) (g .T·Terminal .book) (getD (c .args .calls .now) (c .loop-i .i) Start) _ (c .make-done .result)
+      (record { job = after .job; host = after .host; terminal = after .terminal; sheet = after .sheet }) (c .make-done .ensures)
 
 pub add-tried : need.add-tried
-add-tried g c =
-    let few = makes-few (g .H·Host .did) (g .T·Terminal .did) (g .H·Host .book) (g .T·Terminal .book) (getD (c .args .calls .now) (c .loop-i .i) Start) _ (c .make-done .result) (record { job = c .make-done .last .job; host = c .make-done .last .host; terminal = c .make-done .last .terminal; sheet = c .make-done .last .sheet }) (c .make-done .ensures) in
-    omega (arith, few .0, c .loop-i .inv .0)
+add-tried g c = omega (arith, few g (need.at·add-tried g c .After-make-done) .0, c .loop-i .inv .0)
 
 pub add-ordered : need.add-ordered
-add-ordered g c =
-    let few = makes-few (g .H·Host .did) (g .T·Terminal .did) (g .H·Host .book) (g .T·Terminal .book) (getD (c .args .calls .now) (c .loop-i .i) Start) _ (c .make-done .result) (record { job = c .make-done .last .job; host = c .make-done .last .host; terminal = c .make-done .last .terminal; sheet = c .make-done .last .sheet }) (c .make-done .ensures) in
-    omega (arith, few .1, c .loop-i .inv .1)
+add-ordered g c = omega (arith, few g (need.at·add-ordered g c .After-make-done) .1, c .loop-i .inv .1)
 
 pub loop-i-holds : need.loop-i-holds
 loop-i-holds g c = (omega arith, omega arith, at-first (g .H·Host .did) (g .T·Terminal .did) (g .H·Host .book) (g .T·Terminal .book) (c .args .calls .now) _ (c .args .answers .now))
 
 pub loop-i-again : need.loop-i-again
 loop-i-again g c =
-    let few = makes-few (g .H·Host .did) (g .T·Terminal .did) (g .H·Host .book) (g .T·Terminal .book) (getD (c .args .calls .now) (c .loop-i .i) Start) _ (c .make-done .result) (record { job = c .make-done .last .job; host = c .make-done .last .host; terminal = c .make-done .last .terminal; sheet = c .make-done .last .sheet }) (c .make-done .ensures) in
+    let h = few g (need.at·loop-i-again g c .After-make-done) in
     let l : c .loop-i .i < length (c .args .calls .now) = omega arith in
     let k : c .loop-i .i < length (c .args .answers .now) = omega arith in
     (
-      omega (arith, few .0, c .loop-i .inv .0),
-      omega (arith, few .1, c .loop-i .inv .1),
+      omega (arith, h .0, c .loop-i .inv .0),
+      omega (arith, h .1, c .loop-i .inv .1),
       one-more (g .H·Host .did) (g .T·Terminal .did) (g .H·Host .book) (g .T·Terminal .book) (c .args .calls .now) (c .loop-i .i) Start _ (c .args .answers .now) (c .loop-i .tried) (c .loop-i .ordered) _ (c .loop-i .answers) (c .make-done .result) _ l k (c .loop-i .inv .2) (c .make-done .ensures)
     )
 
