@@ -1,0 +1,3 @@
+// Runs of calls on the simulated host, as examples.
+#[cfg(test)]
+mod tests;
