@@ -1,0 +1,4 @@
+pub mod Cuts
+pub mod Digits
+pub mod Printing
+pub mod Reading
