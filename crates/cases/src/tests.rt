@@ -15,9 +15,19 @@ use std::test::*;
 use supervisor::errors::Refusal;
 use supervisor::job::Job;
 
-const NO_OPTIONS: SpawnOptions = SpawnOptions { grouped: false, session: false, reset_sigmask: false, grant_foreground: false };
+const NO_OPTIONS: SpawnOptions = SpawnOptions {
+    grouped: false,
+    session: false,
+    reset_sigmask: false,
+    grant_foreground: false,
+};
 
-const BLANK: Record = Record { call: CallKind::Release, child: 0, number: 0, answer: Answer::Nothing };
+const BLANK: Record = Record {
+    call: CallKind::Release,
+    child: 0,
+    number: 0,
+    answer: Answer::Nothing,
+};
 
 fn fresh() -> Result<Job, Fail> {
     match Job::new(1, 0) {
@@ -63,13 +73,23 @@ fn a_run_answers_each_call_and_counts() -> Result<(), Fail> {
         at(Step::Control, 13),
         Call::Look { ticket: 3 },
     ];
-    let tally = drive(&mut job, &mut host, &mut terminal, &calls, &mut sheet, &mut answers);
+    let tally = drive(
+        &mut job,
+        &mut host,
+        &mut terminal,
+        &calls,
+        &mut sheet,
+        &mut answers,
+    );
     check_eq(counts(tally), (1, 2))?;
     let mut codes = [0; 10];
     for (i, answer) in answers.iter().enumerate() {
         codes[i] = code(*answer);
     }
-    check_eq(codes, [1001, 1002, 1001, 1001, 1003, 1001, 1004, 1001, 1001, 13])
+    check_eq(
+        codes,
+        [1001, 1002, 1001, 1001, 1003, 1001, 1004, 1001, 1001, 13],
+    )
 }
 
 #[test]
@@ -79,7 +99,14 @@ fn too_few_answers_refuse_the_run() -> Result<(), Fail> {
     let mut terminal = AbsentTerminal::new();
     let mut sheet = [BLANK; 8];
     let mut answers = [Err(Refusal::Line); 1];
-    let tally = drive(&mut job, &mut host, &mut terminal, &[Call::Start, Call::Start], &mut sheet, &mut answers);
+    let tally = drive(
+        &mut job,
+        &mut host,
+        &mut terminal,
+        &[Call::Start, Call::Start],
+        &mut sheet,
+        &mut answers,
+    );
     check_eq(counts(tally), (usize::MAX, 0))?;
     check_eq(code(answers[0]), 13)?;
     check_eq(code(job.start()), 1001)
@@ -93,7 +120,17 @@ fn a_short_sheet_refuses_each_step() -> Result<(), Fail> {
     let mut sheet = [BLANK; 7];
     let mut answers = [Err(Refusal::Line); 3];
     let calls = [Call::Start, at(Step::Control, 5), at(Step::Child, 5)];
-    let tally = drive(&mut job, &mut host, &mut terminal, &calls, &mut sheet, &mut answers);
+    let tally = drive(
+        &mut job,
+        &mut host,
+        &mut terminal,
+        &calls,
+        &mut sheet,
+        &mut answers,
+    );
     check_eq(counts(tally), (0, 0))?;
-    check_eq((code(answers[0]), code(answers[1]), code(answers[2])), (1001, 2, 2))
+    check_eq(
+        (code(answers[0]), code(answers[1]), code(answers[2])),
+        (1001, 2, 2),
+    )
 }

@@ -44,7 +44,11 @@ fn spawns_among(sheet: &[Record], n: usize) -> usize
 fn quiet(answer: Result<u32, Refusal>) -> Done
     ensures { λ r. ⌜ r ≡ Calls.done answer 0 0 ⌝ }
 {
-    Done { answer, tried: 0, ordered: 0 }
+    Done {
+        answer,
+        tried: 0,
+        ordered: 0,
+    }
 }
 
 fn look_value(look: Result<bool, Refusal>) -> Result<u32, Refusal>
@@ -82,7 +86,14 @@ fn stepped(answer: Result<Stepped, Refusal>, sheet: &[Record]) -> Done
 }
 
 // Makes one step.
-fn step_once<H: Host, T: Terminal>(job: &mut Job, host: &mut H, terminal: &mut T, sheet: &mut [Record], step: Step, time: u64) -> Result<Stepped, Refusal>
+fn step_once<H: Host, T: Terminal>(
+    job: &mut Job,
+    host: &mut H,
+    terminal: &mut T,
+    sheet: &mut [Record],
+    step: Step,
+    time: u64,
+) -> Result<Stepped, Refusal>
     ensures { λ r. ⌜ Steps (H·Host .did) (T·Terminal .did) (H·Host .book) (T·Terminal .book) (Calls.tree-of step) time (record { job = now (job .entry); host = now (host .entry); terminal = now (terminal .entry); sheet = now (sheet .entry) }) r (record { job = now (job .exit); host = now (host .exit); terminal = now (terminal .exit); sheet = now (sheet .exit) }) ⌝ }
 {
     match step {
@@ -92,7 +103,13 @@ fn step_once<H: Host, T: Terminal>(job: &mut Job, host: &mut H, terminal: &mut T
 }
 
 // Makes one call.
-fn make<H: Host, T: Terminal>(job: &mut Job, host: &mut H, terminal: &mut T, sheet: &mut [Record], call: Call) -> Done
+fn make<H: Host, T: Terminal>(
+    job: &mut Job,
+    host: &mut H,
+    terminal: &mut T,
+    sheet: &mut [Record],
+    call: Call,
+) -> Done
     ensures { λ r. ⌜ Calls.Makes (H·Host .did) (T·Terminal .did) (H·Host .book) (T·Terminal .book) call (record { job = now (job .entry); host = now (host .entry); terminal = now (terminal .entry); sheet = now (sheet .entry) }) r (record { job = now (job .exit); host = now (host .exit); terminal = now (terminal .exit); sheet = now (sheet .exit) }) ⌝ }
 {
     match call {
@@ -109,7 +126,14 @@ fn make<H: Host, T: Terminal>(job: &mut Job, host: &mut H, terminal: &mut T, she
 }
 
 // Makes the calls one after the other, each step with the same sheet, and writes their answers in order.
-pub fn drive<H: Host, T: Terminal>(job: &mut Job, host: &mut H, terminal: &mut T, calls: &[Call], sheet: &mut [Record], answers: &mut [Result<u32, Refusal>]) -> Result<Tally, Refusal>
+pub fn drive<H: Host, T: Terminal>(
+    job: &mut Job,
+    host: &mut H,
+    terminal: &mut T,
+    calls: &[Call],
+    sheet: &mut [Record],
+    answers: &mut [Result<u32, Refusal>],
+) -> Result<Tally, Refusal>
     ensures { λ r. ⌜ Runs.Drives (H·Host .did) (T·Terminal .did) (H·Host .book) (T·Terminal .book) (now (calls .entry)) (record { job = now (job .entry); host = now (host .entry); terminal = now (terminal .entry); sheet = now (sheet .entry) }) (now (answers .entry)) r (record { job = now (job .exit); host = now (host .exit); terminal = now (terminal .exit); sheet = now (sheet .exit) }) (now (answers .exit)) ⌝ }
 {
     if answers.len() < calls.len() {

@@ -29,7 +29,10 @@ impl SpawnOptions {
     pub fn sum(self) -> u8
         ensures { λ r. ⌜ r ≡ Options.sum-of self ⌝ }
     {
-        mark(self.grouped, 1) + mark(self.session, 2) + mark(self.reset_sigmask, 4) + mark(self.grant_foreground, 8)
+        mark(self.grouped, 1)
+            + mark(self.session, 2)
+            + mark(self.reset_sigmask, 4)
+            + mark(self.grant_foreground, 8)
     }
 
     // The options that a number is the sum of; none for a number over 15.

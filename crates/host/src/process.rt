@@ -55,10 +55,20 @@ pub trait Host {
     fn let_go(&mut self, child: u32)
         ensures { λ _. ⌜ did (now (self .entry)) (Calls.let-go child) tt (now (self .exit)) ⌝ };
 
-    fn hook(&mut self, number: u8, state: CommandState, previous: Option<CommandState>) -> Result<SpawnOptions, u16>
+    fn hook(
+        &mut self,
+        number: u8,
+        state: CommandState,
+        previous: Option<CommandState>,
+    ) -> Result<SpawnOptions, u16>
         ensures { λ r. ⌜ did (now (self .entry)) (Calls.hook number state previous) r (now (self .exit)) ⌝ };
 
-    fn routine(&mut self, number: u8, state: CommandState, previous: Option<CommandState>) -> Result<(), u16>
+    fn routine(
+        &mut self,
+        number: u8,
+        state: CommandState,
+        previous: Option<CommandState>,
+    ) -> Result<(), u16>
         ensures { λ r. ⌜ did (now (self .entry)) (Calls.routine number state previous) r (now (self .exit)) ⌝ };
 
     fn tell(&mut self, handler: u8, code: u16) -> Result<(), u16>

@@ -14,8 +14,15 @@ pub enum ProcessEnd {
 #[derive(Clone, Copy)]
 pub enum CommandState {
     Pending,
-    Running { child: u32, started: u64 },
-    Finished { end: ProcessEnd, started: u64, finished: u64 },
+    Running {
+        child: u32,
+        started: u64,
+    },
+    Finished {
+        end: ProcessEnd,
+        started: u64,
+        finished: u64,
+    },
 }
 
 impl CommandState {
@@ -44,7 +51,11 @@ impl CommandState {
         ensures after { λ _. ⌜ now (self .exit) ≡ CommandState.Pending ⌝ }
     {
         let kept = match *self {
-            CommandState::Running { started, .. } => CommandState::Finished { end: ProcessEnd::Continued, started, finished: time },
+            CommandState::Running { started, .. } => CommandState::Finished {
+                end: ProcessEnd::Continued,
+                started,
+                finished: time,
+            },
             state => state,
         };
         *self = CommandState::Pending;

@@ -23,7 +23,7 @@ const NO_CHILD: Child = Child {
 const LIMIT: u32 = 1 << 31;
 
 impl Roster {
-    pub fn new() -> Self
+    pub(crate) fn new() -> Self
         ensures items { λ r. ⌜ items r ≡ [] ⌝ }
         ensures next { λ r. ⌜ r .next ≡ 100 ⌝ }
     {
@@ -34,7 +34,7 @@ impl Roster {
         }
     }
 
-    pub fn is_full(&self) -> bool
+    pub(crate) fn is_full(&self) -> bool
         ensures { λ r. ⌜ r ≡ leb 16 (length (numbers (items (now (self .entry))))) ⌝ }
     {
         self.len >= MOST
@@ -52,7 +52,7 @@ impl Roster {
     }
 
     // The life of a child; none where it is off the roster.
-    pub fn life(&self, number: u32) -> Option<Life>
+    pub(crate) fn life(&self, number: u32) -> Option<Life>
         ensures is { λ r. ⌜ r ≡ life-of number (items (now (self .entry))) ⌝ }
         ensures fit { λ r. ⌜ is-fit-if r ≡ true ⌝ }
     {
@@ -63,7 +63,7 @@ impl Roster {
     }
 
     // Adds a child with the next number, that goes on; none where there is no entry or no number left.
-    pub fn add(&mut self) -> Option<u32>
+    pub(crate) fn add(&mut self) -> Option<u32>
         ensures answer { λ r. ⌜ r ≡ cond (has-room (now (self .entry) .next) (items (now (self .entry)))) (Some (now (self .entry) .next)) None ⌝ }
         ensures items { λ _. ⌜ items (now (self .exit)) ≡ cond (has-room (now (self .entry) .next) (items (now (self .entry)))) (items (now (self .entry)) ++ child (now (self .entry) .next) Life.Going ∷ []) (items (now (self .entry))) ⌝ }
         ensures next { λ _. ⌜ now (self .exit) .next ≡ cond (has-room (now (self .entry) .next) (items (now (self .entry)))) (now (self .entry) .next + 1) (now (self .entry) .next) ⌝ }
@@ -82,7 +82,7 @@ impl Roster {
     }
 
     // Gives a child a life; nothing changes where it is off the roster.
-    pub fn put(&mut self, number: u32, life: Life)
+    pub(crate) fn put(&mut self, number: u32, life: Life)
         requires { ⌜ is-fit life ≡ true ⌝ }
         ensures items { λ _. ⌜ items (now (self .exit)) ≡ with-life number life (items (now (self .entry))) ⌝ }
         ensures next { λ _. ⌜ now (self .exit) .next ≡ now (self .entry) .next ⌝ }
@@ -93,7 +93,7 @@ impl Roster {
     }
 
     // Takes a child off; nothing changes where it is off already.
-    pub fn strike(&mut self, number: u32)
+    pub(crate) fn strike(&mut self, number: u32)
         ensures items { λ _. ⌜ items (now (self .exit)) ≡ without number (items (now (self .entry))) ⌝ }
         ensures next { λ _. ⌜ now (self .exit) .next ≡ now (self .entry) .next ⌝ }
     {
@@ -104,7 +104,7 @@ impl Roster {
     }
 
     // Gives a living child a life, and answers whether it was living; else nothing changes.
-    pub fn put_living(&mut self, number: u32, life: Life) -> bool
+    pub(crate) fn put_living(&mut self, number: u32, life: Life) -> bool
         requires { ⌜ is-fit life ≡ true ⌝ }
         ensures answer { λ r. ⌜ r ≡ is-living (life-of number (items (now (self .entry)))) ⌝ }
         ensures items { λ _. ⌜ items (now (self .exit)) ≡ with-living number life (items (now (self .entry))) ⌝ }
@@ -120,7 +120,7 @@ impl Roster {
     }
 
     // The life of a child; one that has ended is taken off, since its end is reported once.
-    pub fn report(&mut self, number: u32) -> Option<Life>
+    pub(crate) fn report(&mut self, number: u32) -> Option<Life>
         ensures life { λ r. ⌜ r ≡ life-of number (items (now (self .entry))) ⌝ }
         ensures items { λ r. ⌜ items (now (self .exit)) ≡ reported number r (items (now (self .entry))) ⌝ }
         ensures next { λ _. ⌜ now (self .exit) .next ≡ now (self .entry) .next ⌝ }

@@ -26,7 +26,7 @@ fn is_ignored(mask: u32, signal: u8) -> bool
 
 impl Life {
     // The life once a signal was delivered.
-    pub fn delivered(self, mask: u32, signal: u8) -> Life
+    pub(crate) fn delivered(self, mask: u32, signal: u8) -> Life
         requires { ⌜ signal ≤ 31 ⌝ }
         ensures is { λ r. ⌜ r ≡ delivered mask signal self ⌝ }
         ensures fit { λ r. ⌜ (is-fit self ≡ true → is-fit r ≡ true) ⌝ }

@@ -17,9 +17,10 @@ one-record base more text line rs i d l e p q =
 
 take-least : (n k : ℕ) (rs : List Record) → k ≡ min n (length rs) → take (k - 0) rs ≡ take n rs
 take-least n k rs e =
-    elim (cases-lt n (length rs))
-      [ inl h ↦ let p : k - 0 ≡ n = omega arith in ap (λ i. take i rs) p
-      | inr h ↦ let p : length rs ≤ k - 0 = omega arith in take-all (k - 0) rs p ∙ sym (take-all n rs h) ]
+    elim (cases-lt n (length rs)) [
+      | inl h ↦ let p : k - 0 ≡ n = omega arith in ap (λ i. take i rs) p
+      | inr h ↦ let p : length rs ≤ k - 0 = omega arith in take-all (k - 0) rs p ∙ sym (take-all n rs h)
+    ]
 
 -- as many records as there are, up to n, were added to a first line
 pub with-records : (first base all : List ℕ) (n k : ℕ) (rs : List Record) → base ≡ first → k ≡ min n (length rs) → all ≡ base ++ records-text (take (k - 0) rs) → all ≡ first ++ records-text (take n rs)

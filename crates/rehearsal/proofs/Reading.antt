@@ -32,9 +32,10 @@ one-more read more n line left others e p = ap (λ v. after-lines v others) e �
 pub at-feed : (n : ℕ) (begun s rest : List ℕ) → behind 10 s ≡ Some rest → lines-from n begun s ≡ with-line n (line-of (eqb n 1) (lettered (begun ++ before 10 s))) (lines-from (n + 1) [] rest)
 at-feed n begun [] rest = λ e. let z : _≡_ {A = ℕ} 0 1 = cc in absurd (omega arith)
 at-feed n begun (b ∷ bs) rest =
-    elim (eqb b 10) as (λ v. cond v (Some bs) (behind 10 bs) ≡ Some rest → cond v (with-line n (line-of (eqb n 1) (lettered begun)) (lines-from (n + 1) [] bs)) (lines-from n (begun ++ b ∷ []) bs) ≡ with-line n (line-of (eqb n 1) (lettered (begun ++ cond v [] (b ∷ before 10 bs)))) (lines-from (n + 1) [] rest))
-      [ true ↦ λ e. let same-rest : bs ≡ rest = cc in ap (λ t. with-line n (line-of (eqb n 1) (lettered t)) (lines-from (n + 1) [] bs)) (sym (append-nil begun)) ∙ ap (λ t. with-line n (line-of (eqb n 1) (lettered (begun ++ []))) (lines-from (n + 1) [] t)) same-rest
-      | false ↦ λ e. at-feed n (begun ++ b ∷ []) bs rest e ∙ ap (λ t. with-line n (line-of (eqb n 1) (lettered t)) (lines-from (n + 1) [] rest)) (append-assoc begun (b ∷ []) (before 10 bs)) ]
+    elim (eqb b 10) as (λ v. cond v (Some bs) (behind 10 bs) ≡ Some rest → cond v (with-line n (line-of (eqb n 1) (lettered begun)) (lines-from (n + 1) [] bs)) (lines-from n (begun ++ b ∷ []) bs) ≡ with-line n (line-of (eqb n 1) (lettered (begun ++ cond v [] (b ∷ before 10 bs)))) (lines-from (n + 1) [] rest)) [
+      | true ↦ λ e. let same-rest : bs ≡ rest = cc in ap (λ t. with-line n (line-of (eqb n 1) (lettered t)) (lines-from (n + 1) [] bs)) (sym (append-nil begun)) ∙ ap (λ t. with-line n (line-of (eqb n 1) (lettered (begun ++ []))) (lines-from (n + 1) [] t)) same-rest
+      | false ↦ λ e. at-feed n (begun ++ b ∷ []) bs rest e ∙ ap (λ t. with-line n (line-of (eqb n 1) (lettered t)) (lines-from (n + 1) [] rest)) (append-assoc begun (b ∷ []) (before 10 bs))
+    ]
 
 -- what stands before the line feed says o
 pub first-line : (n : ℕ) (s rest : List ℕ) (o : Option Line) → behind 10 s ≡ Some rest → o ≡ line-of (eqb n 1) (lettered (before 10 s)) → lines-from n [] s ≡ with-line n o (lines-from (n + 1) [] rest)
@@ -45,13 +46,13 @@ pub unended : (n x : ℕ) (begun s : List ℕ) → behind 10 s ≡ None → line
 unended n x begun [] = λ e. refl
 unended n x begun (b ∷ bs) =
     elim (eqb b 10) as (λ v. cond v (Some bs) (behind 10 bs) ≡ None → cond v (with-line n (line-of (eqb n 1) (lettered (x ∷ begun))) (lines-from (n + 1) [] bs)) (lines-from n (x ∷ (begun ++ b ∷ [])) bs) ≡ Err n)
-      [ true ↦ λ e. let z : _≡_ {A = ℕ} 0 1 = cc in absurd (omega arith) | false ↦ λ e. unended n x (begun ++ b ∷ []) bs e ]
+    [ true ↦ λ e. let z : _≡_ {A = ℕ} 0 1 = cc in absurd (omega arith) | false ↦ λ e. unended n x (begun ++ b ∷ []) bs e ]
 
 pub last-unended : (n : ℕ) (s : List ℕ) → 0 < length s → behind 10 s ≡ None → lines-from n [] s ≡ Err n
 last-unended n [] l = λ e. absurd (omega arith)
 last-unended n (b ∷ bs) l =
     elim (eqb b 10) as (λ v. cond v (Some bs) (behind 10 bs) ≡ None → cond v (with-line n (line-of (eqb n 1) (lettered [])) (lines-from (n + 1) [] bs)) (lines-from n (b ∷ []) bs) ≡ Err n)
-      [ true ↦ λ e. let z : _≡_ {A = ℕ} 0 1 = cc in absurd (omega arith) | false ↦ λ e. unended n b [] bs e ]
+    [ true ↦ λ e. let z : _≡_ {A = ℕ} 0 1 = cc in absurd (omega arith) | false ↦ λ e. unended n b [] bs e ]
 
 pub all-read : (n : ℕ) (s : List ℕ) → length s ≡ 0 → lines-from n [] s ≡ Ok []
 all-read n [] l = refl

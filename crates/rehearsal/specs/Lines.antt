@@ -35,8 +35,8 @@ letter-of (Lines.the-variants.Stop child) = 119
 abbrev pub send-named : List ℕ → Option Send
 send-named name =
     cond (same name (codes "start")) (Some Sends.the-variants.Start)
-      (cond (same name (codes "stop")) (Some Sends.the-variants.Stop)
-        (cond (same name (codes "to_wait")) (Some Sends.the-variants.ToWait) None))
+    (cond (same name (codes "stop")) (Some Sends.the-variants.Stop)
+    (cond (same name (codes "to_wait")) (Some Sends.the-variants.ToWait) None))
 
 -- a letter and what stands behind its tab
 abbrev pub lettered : List ℕ → Option (ℕ × List ℕ)
@@ -96,11 +96,11 @@ event-of (Some p) =
 abbrev pub line-by : Bool → ℕ → List ℕ → Option Line
 line-by first letter fields =
     cond (eqb letter 109) (cond first (make-line (numbers-of fields)) None)
-      (cond (eqb letter 99) (send-line (number-of fields) (send-named fields))
-        (cond (eqb letter 115) (step-of (lettered fields))
-          (cond (eqb letter 108) (look-line (number-of fields))
-            (cond (eqb letter 103) (collect-line (number-of fields))
-              (cond (eqb letter 119) (event-of (lettered fields)) None)))))
+    (cond (eqb letter 99) (send-line (number-of fields) (send-named fields))
+    (cond (eqb letter 115) (step-of (lettered fields))
+    (cond (eqb letter 108) (look-line (number-of fields))
+    (cond (eqb letter 103) (collect-line (number-of fields))
+    (cond (eqb letter 119) (event-of (lettered fields)) None)))))
 
 -- what a line says; none for a faulty one
 abbrev pub line-of : Bool → Option (ℕ × List ℕ) → Option Line

@@ -36,7 +36,7 @@ pub enum Line {
 
 impl Line {
     // The letter that the line begins with.
-    pub fn letter(self) -> char
+    pub(crate) fn letter(self) -> char
         ensures { λ r. ⌜ r ≡ letter-of self ⌝ }
     {
         match self {
@@ -149,7 +149,10 @@ fn read_exit(fields: &[u8]) -> Option<Line>
     ensures { λ r. ⌜ r ≡ exit-line (numbers-of (now (fields .entry))) ⌝ }
 {
     match two_numbers(fields) {
-        Some((child, code)) if code <= 255 => Some(Line::Exit { child, code: code as u8 }),
+        Some((child, code)) if code <= 255 => Some(Line::Exit {
+            child,
+            code: code as u8,
+        }),
         _ => None,
     }
 }
@@ -190,7 +193,7 @@ fn read_fields(letter: u8, fields: &[u8], first: bool) -> Option<Line>
 }
 
 // What a line without its line feed says; none for a faulty one.
-pub fn parse(line: &[u8], first: bool) -> Option<Line>
+pub(crate) fn parse(line: &[u8], first: bool) -> Option<Line>
     ensures { λ r. ⌜ r ≡ line-of first (lettered (now (line .entry))) ⌝ }
 {
     match lettered(line) {

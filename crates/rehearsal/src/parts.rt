@@ -18,7 +18,7 @@ fn part_length(text: &[u8], mark: u8) -> usize
 }
 
 // What stands before the first mark, and what stands after it; the whole text and nothing where there is no mark.
-pub fn cut(text: &[u8], mark: u8) -> (&[u8], Option<&[u8]>)
+pub(crate) fn cut(text: &[u8], mark: u8) -> (&[u8], Option<&[u8]>)
     ensures first { λ r. ⌜ now (r .0) ≡ before mark (now (text .entry)) ⌝ }
     ensures rest { λ r. ⌜ mapped now (r .1) ≡ behind mark (now (text .entry)) ⌝ }
     ensures shorter { λ r. ⌜ Cases (r .1) (Unit {0}) (λ t. length (now t) < length (now (text .entry))) ⌝ }

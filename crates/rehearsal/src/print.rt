@@ -23,20 +23,32 @@ fn faulty_line(heap: Global, refusal: u8, number: usize) -> Result<String, Alloc
 }
 
 // The number of a faulty line, behind that of the refusal.
-pub fn faulty(heap: Global, number: usize) -> Result<String, AllocError>
+pub(crate) fn faulty(heap: Global, number: usize) -> Result<String, AllocError>
     ensures { λ r. ⌜ made r (λ t. string-bytes t ≡ faulty-text 13 number) ⌝ }
 {
     faulty_line(heap, Refusal::Line.number(), number)
 }
 
-fn answer_line(heap: Global, number: usize, letter: char, refusal: u8, value: u32) -> Result<String, AllocError>
+fn answer_line(
+    heap: Global,
+    number: usize,
+    letter: char,
+    refusal: u8,
+    value: u32,
+) -> Result<String, AllocError>
     ensures { λ r. ⌜ made r (λ t. string-bytes t ≡ answer-text number letter refusal value) ⌝ }
 {
     format!(heap, "{number}\t{letter}\t{refusal}\t{value}\n")
 }
 
 // A buffer that begins with the answer of a line.
-fn buffer(heap: Global, number: usize, letter: char, refusal: u8, value: u32) -> Result<String, AllocError>
+fn buffer(
+    heap: Global,
+    number: usize,
+    letter: char,
+    refusal: u8,
+    value: u32,
+) -> Result<String, AllocError>
     ensures { λ r. ⌜ made r (λ t. string-bytes t ≡ answer-text number letter refusal value) ⌝ }
 {
     let mut text = String::with_capacity(heap, BYTES)?;
@@ -66,7 +78,13 @@ fn add_records(heap: Global, text: &mut String, records: &[Record]) -> Result<()
     Ok(())
 }
 
-fn granted_lines(heap: Global, number: usize, letter: char, granted: Granted, sheet: &[Record]) -> Result<String, AllocError>
+fn granted_lines(
+    heap: Global,
+    number: usize,
+    letter: char,
+    granted: Granted,
+    sheet: &[Record],
+) -> Result<String, AllocError>
     ensures { λ r. ⌜ made r (λ t. string-bytes t ≡ line-text number letter (Ok granted) (now (sheet .entry))) ⌝ }
 {
     let mut text = buffer(heap, number, letter, 0, granted.value)?;
@@ -76,7 +94,13 @@ fn granted_lines(heap: Global, number: usize, letter: char, granted: Granted, sh
 }
 
 // What the line of this number prints: its letter, refusal and value, and the records that its step wrote on the sheet.
-pub fn lines(heap: Global, number: usize, letter: char, answer: Result<Granted, Refusal>, sheet: &[Record]) -> Result<String, AllocError>
+pub(crate) fn lines(
+    heap: Global,
+    number: usize,
+    letter: char,
+    answer: Result<Granted, Refusal>,
+    sheet: &[Record],
+) -> Result<String, AllocError>
     ensures { λ r. ⌜ made r (λ t. string-bytes t ≡ line-text number letter answer (now (sheet .entry))) ⌝ }
 {
     match answer {

@@ -62,12 +62,16 @@ fn value_alone(value: u32) -> Granted
 fn if_living(living: bool) -> Result<Granted, Refusal>
     ensures { λ r. ⌜ r ≡ cond living (Ok (record { value = 0; records = 0 })) (Err Unknown) ⌝ }
 {
-    if living { Ok(value_alone(0)) } else { Err(Refusal::Unknown) }
+    if living {
+        Ok(value_alone(0))
+    } else {
+        Err(Refusal::Unknown)
+    }
 }
 
 impl Rehearsal {
     // With options and mask 0.
-    pub fn new() -> Rehearsal {
+    pub(crate) fn new() -> Rehearsal {
         match Rehearsal::with(0, 0) {
             Ok(made) => made,
             Err(_) => unreachable(),
@@ -107,8 +111,10 @@ impl Rehearsal {
 
     fn step(&mut self, kind: StepKind, time: u64) -> Result<Granted, Refusal> {
         let stepped = match kind {
-            StepKind::Child => self.job.child_step(&mut self.host, &mut self.terminal, &mut self.sheet, time)?,
-            StepKind::Control => self.job.control_step(&mut self.host, &mut self.terminal, &mut self.sheet, time)?,
+            StepKind::Child => self.job
+                .child_step(&mut self.host, &mut self.terminal, &mut self.sheet, time)?,
+            StepKind::Control => self.job
+                .control_step(&mut self.host, &mut self.terminal, &mut self.sheet, time)?,
         };
         Ok(Granted {
             value: u32::from(stepped.progress.number()),
@@ -160,7 +166,7 @@ impl Rehearsal {
     }
 
     // Makes the calls of the lines, in order, and gives the text of their answers.
-    pub fn perform(&mut self, heap: Global, lines: &[Line]) -> Result<String, AllocError>
+    pub(crate) fn perform(&mut self, heap: Global, lines: &[Line]) -> Result<String, AllocError>
         ensures { λ r. ⌜ (length (now (lines .entry)) ≡ 0 → made r (λ text. string-bytes text ≡ [])) ⌝ }
     {
         let mut text = String::new(heap);

@@ -59,7 +59,7 @@ fn next_line<'a>(left: &'a [u8], number: usize) -> Option<(Line, &'a [u8])>
 }
 
 // What the lines of a script say, or the first that is faulty.
-pub fn read(heap: Global, script: &[u8]) -> Result<Vec<Line>, Fault>
+pub(crate) fn read(heap: Global, script: &[u8]) -> Result<Vec<Line>, Fault>
     ensures { λ r. ⌜ Reads vec-items r (script-of (now (script .entry))) ⌝ }
 {
     if script.len() > MOST_BYTES {

@@ -45,7 +45,7 @@ fn number(field: &[u8]) -> Option<u64>
     }
 }
 
-pub fn token_of<'a>(field: &'a [u8]) -> Token<'a>
+pub(crate) fn token_of<'a>(field: &'a [u8]) -> Token<'a>
     ensures { λ r. ⌜ elim r [ Word w ↦ (number-of (now (field .entry)) ≡ None) × (now w ≡ now (field .entry)) | Number n ↦ number-of (now (field .entry)) ≡ Some n ] ⌝ }
 {
     match number(field) {
@@ -55,7 +55,7 @@ pub fn token_of<'a>(field: &'a [u8]) -> Token<'a>
 }
 
 // The number of a field that stands alone.
-pub fn one_number(fields: &[u8]) -> Option<u64>
+pub(crate) fn one_number(fields: &[u8]) -> Option<u64>
     ensures { λ r. ⌜ r ≡ number-of (now (fields .entry)) ⌝ }
 {
     match token_of(fields) {
@@ -65,7 +65,7 @@ pub fn one_number(fields: &[u8]) -> Option<u64>
 }
 
 // The numbers of two fields.
-pub fn two_numbers(fields: &[u8]) -> Option<(u64, u64)>
+pub(crate) fn two_numbers(fields: &[u8]) -> Option<(u64, u64)>
     ensures { λ r. ⌜ r ≡ numbers-of (now (fields .entry)) ⌝ }
 {
     let (first, Some(second)) = cut(fields, b'\t') else {

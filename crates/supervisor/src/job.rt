@@ -31,7 +31,7 @@ mod steps;
 #[cfg(test)]
 impl Job {
     // As a control that sets the error handler leaves it.
-    pub fn set_handler(&mut self, handler: u8) {
+    pub(crate) fn set_handler(&mut self, handler: u8) {
         self.task.settings.handler = Some(handler);
     }
 }

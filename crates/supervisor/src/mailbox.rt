@@ -7,14 +7,14 @@ ghost use Rattle.std.specs.declared.option.Option.the-variants.{None};
 ghost use Rattle.supervisor.specs.Mailbox as Mail;
 ghost use Rattle.supervisor.specs.View.{queues-view, mailbox-view};
 use crate::errors::Refusal;
-use task::messages::Control;
-use task::messages::ControlMessage;
 use crate::priority::Mailbox;
 use crate::priority::Priority;
 use crate::priority::Queues;
+use ring::queue::Queue;
+use task::messages::Control;
+use task::messages::ControlMessage;
 use task::task::Outcome;
 use task::task::PollOutcome;
-use ring::queue::Queue;
 use tickets::flag::Tickets;
 
 impl Queues {
@@ -42,7 +42,7 @@ impl Queues {
     }
 
     // Takes the oldest urgent message, else the oldest high one, else the oldest normal one.
-    pub fn receive(&mut self) -> Option<ControlMessage>
+    pub(crate) fn receive(&mut self) -> Option<ControlMessage>
         ensures taken { λ r. ⌜ Mail.take (queues-view (now (self .entry))) ≡ Mail.as-taken r (queues-view (now (self .exit))) ⌝ }
         ensures idle { λ r. ⌜ (r ≡ None → queues-view (now (self .exit)) ≡ queues-view (now (self .entry))) ⌝ }
     {
@@ -56,19 +56,30 @@ impl Queues {
     }
 }
 
-const BLANK: ControlMessage = ControlMessage { control: Control::Start, ticket: 0 };
+const BLANK: ControlMessage = ControlMessage {
+    control: Control::Start,
+    ticket: 0,
+};
 
 impl Mailbox {
     // A mailbox with no messages and no tickets.
-    pub fn new() -> Self
+    pub(crate) fn new() -> Self
         ensures { λ r. ⌜ mailbox-view r ≡ Mail.empty ⌝ }
     {
-        let queues = Queues { normal: Queue::new(BLANK), high: Queue::new(BLANK), urgent: Queue::new(BLANK) };
-        Mailbox { queues, ending: Queue::new(0), tickets: Tickets::new() }
+        let queues = Queues {
+            normal: Queue::new(BLANK),
+            high: Queue::new(BLANK),
+            urgent: Queue::new(BLANK),
+        };
+        Mailbox {
+            queues,
+            ending: Queue::new(0),
+            tickets: Tickets::new(),
+        }
     }
 
     // What lacks for a send, if anything does.
-    pub fn refusal(&self, priority: Priority) -> Option<Refusal>
+    pub(crate) fn refusal(&self, priority: Priority) -> Option<Refusal>
         ensures { λ r. ⌜ r ≡ Mail.send-refusal priority (mailbox-view (now (self .entry))) ⌝ }
     {
         if !self.queues.has_room(priority) {
@@ -81,18 +92,19 @@ impl Mailbox {
     }
 
     // Gives a control the next ticket, held or not, and adds it to its queue.
-    pub fn admit(&mut self, priority: Priority, control: Control, held: bool) -> u32
+    pub(crate) fn admit(&mut self, priority: Priority, control: Control, held: bool) -> u32
         requires { ⌜ Mail.send-refusal priority (mailbox-view (now self)) ≡ None ⌝ }
         ensures ticket { λ r. ⌜ r ≡ mailbox-view (now (self .entry)) .issued + 1 ⌝ }
         ensures after { λ _. ⌜ mailbox-view (now (self .exit)) ≡ Mail.admitted priority control «held» (mailbox-view (now (self .entry))) ⌝ }
     {
         let ticket = self.tickets.issue(held).unwrap();
-        self.queues.send(priority, ControlMessage { control, ticket });
+        self.queues
+            .send(priority, ControlMessage { control, ticket });
         ticket
     }
 
     // Frees the place of a ticket.
-    pub fn vacate(&mut self, ticket: u32)
+    pub(crate) fn vacate(&mut self, ticket: u32)
         ensures { λ _. ⌜ mailbox-view (now (self .exit)) ≡ Mail.vacated ticket (mailbox-view (now (self .entry))) ⌝ }
     {
         self.tickets.vacate(ticket);
@@ -108,7 +120,7 @@ impl Mailbox {
     }
 
     // Sees to the ticket of a control that was carried out.
-    pub fn settle(&mut self, outcome: Outcome, ticket: u32)
+    pub(crate) fn settle(&mut self, outcome: Outcome, ticket: u32)
         requires { ⌜ length (mailbox-view (now self) .ending) < 256 ⌝ }
         ensures { λ _. ⌜ mailbox-view (now (self .exit)) ≡ Mail.settle outcome ticket (mailbox-view (now (self .entry))) ⌝ }
     {
@@ -125,7 +137,7 @@ impl Mailbox {
     }
 
     // Sees to the tickets that wait for the child's end, once it was polled.
-    pub fn after_poll(&mut self, outcome: PollOutcome)
+    pub(crate) fn after_poll(&mut self, outcome: PollOutcome)
         ensures { λ _. ⌜ mailbox-view (now (self .exit)) ≡ Mail.after-poll outcome (mailbox-view (now (self .entry))) ⌝ }
     {
         match outcome {

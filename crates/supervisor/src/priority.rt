@@ -1,6 +1,6 @@
 // The mailbox of a job: its queues, the tickets that wait for the child's end, and the ticket table.
-use task::messages::ControlMessage;
 use ring::queue::Queue;
+use task::messages::ControlMessage;
 use tickets::flag::Tickets;
 
 // Which queue a control is sent to.

@@ -41,7 +41,13 @@ impl Host for NoRoom as NoRoomHost {
         true
     }
 
-    fn spawn(&mut self, _program: u8, _options: SpawnOptions, _way: u8, _time: u64) -> Result<u32, u16> {
+    fn spawn(
+        &mut self,
+        _program: u8,
+        _options: SpawnOptions,
+        _way: u8,
+        _time: u64,
+    ) -> Result<u32, u16> {
         self.served = self.served.wrapping_add(1);
         self.spawns = self.spawns.wrapping_add(1);
         Err(11)
@@ -76,12 +82,22 @@ impl Host for NoRoom as NoRoomHost {
         self.served = self.served.wrapping_add(1);
     }
 
-    fn hook(&mut self, _number: u8, _state: CommandState, _previous: Option<CommandState>) -> Result<SpawnOptions, u16> {
+    fn hook(
+        &mut self,
+        _number: u8,
+        _state: CommandState,
+        _previous: Option<CommandState>,
+    ) -> Result<SpawnOptions, u16> {
         self.served = self.served.wrapping_add(1);
         Err(1)
     }
 
-    fn routine(&mut self, _number: u8, _state: CommandState, _previous: Option<CommandState>) -> Result<(), u16> {
+    fn routine(
+        &mut self,
+        _number: u8,
+        _state: CommandState,
+        _previous: Option<CommandState>,
+    ) -> Result<(), u16> {
         self.served = self.served.wrapping_add(1);
         Ok(())
     }
@@ -122,11 +138,19 @@ impl Terminal for NoTerminal as NoTerminalTerminal {
     }
 }
 
-const BLANK: Record = Record { call: CallKind::Release, child: 0, number: 0, answer: Answer::Nothing };
+const BLANK: Record = Record {
+    call: CallKind::Release,
+    child: 0,
+    number: 0,
+    answer: Answer::Nothing,
+};
 
 // A control step at a time, with a sheet of 8 places.
 fn step(job: &mut Job, time: u64) -> Result<usize, Refusal> {
-    let mut host = NoRoom { served: 0, spawns: 0 };
+    let mut host = NoRoom {
+        served: 0,
+        spawns: 0,
+    };
     let mut terminal = NoTerminal { served: 0 };
     let mut sheet = [BLANK; 8];
     match job.control_step(&mut host, &mut terminal, &mut sheet, time) {
@@ -206,12 +230,18 @@ fn a_full_table_gives_no_more_tickets() -> Result<(), Fail> {
 #[test]
 fn a_sheet_of_seven_is_too_short() -> Result<(), Fail> {
     let mut job = fresh()?;
-    let mut host = NoRoom { served: 0, spawns: 0 };
+    let mut host = NoRoom {
+        served: 0,
+        spawns: 0,
+    };
     let mut terminal = NoTerminal { served: 0 };
     let mut seven = [BLANK; 7];
     let mut eight = [BLANK; 8];
     check(is_refused(job.control_step(&mut host, &mut terminal, &mut seven, 0), 2))?;
-    check(job.control_step(&mut host, &mut terminal, &mut eight, 0).is_ok())
+    check(
+        job.control_step(&mut host, &mut terminal, &mut eight, 0)
+            .is_ok(),
+    )
 }
 
 #[test]

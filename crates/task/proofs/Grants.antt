@@ -93,7 +93,7 @@ control-granted Start time t h = by (is-running (t .state)) refl
         always-then (λ x. Free (x .0)) _ (Tree.reported (Tree.launch time t)) _ (reported-keeps (Tree.launch time t) (launch-keeps time t (idle-free t h e))) (λ x f. free-granted (x .0) f)
 control-granted Stop time t h =
     always-then (λ _. Unit {0}) _ (Tree.resume t) _ (resumes (t .foreground .paused) (t .state))
-      (λ t₁ _. always-then Free _ (Tree.yield t₁) _ (yield-frees t₁) (λ t₂ f. weaken t₂ f))
+    (λ t₁ _. always-then Free _ (Tree.yield t₁) _ (yield-frees t₁) (λ t₂ f. weaken t₂ f))
   where
     resumes : (p : Option ℕ) (s : CommandState) → Always (λ _. Unit {0}) (Tree.resumed p s t)
     resumes None s = tt

@@ -63,89 +63,140 @@ fn options_answer(answer: Result<SpawnOptions, u16>) -> Answer
 }
 
 impl<H: Host, T: Terminal> Outside<'_, '_, '_, H, T> {
-    pub fn spawn(&mut self, program: u8, options: SpawnOptions, way: u8, time: u64) -> Result<u32, u16>
+    pub(crate) fn spawn(
+        &mut self,
+        program: u8,
+        options: SpawnOptions,
+        way: u8,
+        time: u64,
+    ) -> Result<u32, u16>
         requires { ⌜ now self .used < length (now (now self .sheet)) ⌝ }
         ensures { λ r. ⌜ Performs (H·Host .did) (T·Terminal .did) 1 (call (Calls.to-host (Calls.spawn program options way time))) (now (self .entry)) r (now (self .exit)) ⌝ }
     {
         let r = self.host.spawn(program, options, way, time);
         let answer = child_answer(r);
-        self.sheet[self.used] = Record { call: CallKind::Spawn, child: 0, number: u32::from(way), answer };
+        self.sheet[self.used] = Record {
+            call: CallKind::Spawn,
+            child: 0,
+            number: u32::from(way),
+            answer,
+        };
         self.used += 1;
         r
     }
 
-    pub fn poll(&mut self, child: u32) -> Result<Option<ProcessEnd>, u16>
+    pub(crate) fn poll(&mut self, child: u32) -> Result<Option<ProcessEnd>, u16>
         requires { ⌜ now self .used < length (now (now self .sheet)) ⌝ }
         ensures { λ r. ⌜ Performs (H·Host .did) (T·Terminal .did) 1 (call (Calls.to-host (Calls.poll child))) (now (self .entry)) r (now (self .exit)) ⌝ }
     {
         let r = self.host.poll(child);
         let answer = poll_answer(r);
-        self.sheet[self.used] = Record { call: CallKind::Poll, child, number: 0, answer };
+        self.sheet[self.used] = Record {
+            call: CallKind::Poll,
+            child,
+            number: 0,
+            answer,
+        };
         self.used += 1;
         r
     }
 
-    pub fn wait(&mut self, child: u32) -> Result<ProcessEnd, u16>
+    pub(crate) fn wait(&mut self, child: u32) -> Result<ProcessEnd, u16>
         requires { ⌜ now self .used < length (now (now self .sheet)) ⌝ }
         ensures { λ r. ⌜ Performs (H·Host .did) (T·Terminal .did) 1 (call (Calls.to-host (Calls.wait child))) (now (self .entry)) r (now (self .exit)) ⌝ }
     {
         let r = self.host.wait(child);
         let answer = end_answer(r);
-        self.sheet[self.used] = Record { call: CallKind::Wait, child, number: 0, answer };
+        self.sheet[self.used] = Record {
+            call: CallKind::Wait,
+            child,
+            number: 0,
+            answer,
+        };
         self.used += 1;
         r
     }
 
-    pub fn kill(&mut self, child: u32) -> Result<(), u16>
+    pub(crate) fn kill(&mut self, child: u32) -> Result<(), u16>
         requires { ⌜ now self .used < length (now (now self .sheet)) ⌝ }
         ensures { λ r. ⌜ Performs (H·Host .did) (T·Terminal .did) 1 (call (Calls.to-host (Calls.kill child))) (now (self .entry)) r (now (self .exit)) ⌝ }
     {
         let r = self.host.kill(child);
         let answer = plain_answer(r);
-        self.sheet[self.used] = Record { call: CallKind::Kill, child, number: 0, answer };
+        self.sheet[self.used] = Record {
+            call: CallKind::Kill,
+            child,
+            number: 0,
+            answer,
+        };
         self.used += 1;
         r
     }
 
-    pub fn cont(&mut self, child: u32) -> Result<(), u16>
+    pub(crate) fn cont(&mut self, child: u32) -> Result<(), u16>
         requires { ⌜ now self .used < length (now (now self .sheet)) ⌝ }
         ensures { λ r. ⌜ Performs (H·Host .did) (T·Terminal .did) 1 (call (Calls.to-host (Calls.cont child))) (now (self .entry)) r (now (self .exit)) ⌝ }
     {
         let r = self.host.cont(child);
         let answer = plain_answer(r);
-        self.sheet[self.used] = Record { call: CallKind::Cont, child, number: 0, answer };
+        self.sheet[self.used] = Record {
+            call: CallKind::Cont,
+            child,
+            number: 0,
+            answer,
+        };
         self.used += 1;
         r
     }
 
-    pub fn hook(&mut self, number: u8, state: CommandState, previous: Option<CommandState>) -> Result<SpawnOptions, u16>
+    pub(crate) fn hook(
+        &mut self,
+        number: u8,
+        state: CommandState,
+        previous: Option<CommandState>,
+    ) -> Result<SpawnOptions, u16>
         requires { ⌜ now self .used < length (now (now self .sheet)) ⌝ }
         ensures { λ r. ⌜ Performs (H·Host .did) (T·Terminal .did) 1 (call (Calls.to-host (Calls.hook number state previous))) (now (self .entry)) r (now (self .exit)) ⌝ }
     {
         let r = self.host.hook(number, state, previous);
         let answer = options_answer(r);
-        self.sheet[self.used] = Record { call: CallKind::Hook, child: 0, number: u32::from(number), answer };
+        self.sheet[self.used] = Record {
+            call: CallKind::Hook,
+            child: 0,
+            number: u32::from(number),
+            answer,
+        };
         self.used += 1;
         r
     }
 
-    pub fn tell(&mut self, handler: u8, code: u16) -> Result<(), u16>
+    pub(crate) fn tell(&mut self, handler: u8, code: u16) -> Result<(), u16>
         requires { ⌜ now self .used < length (now (now self .sheet)) ⌝ }
         ensures { λ r. ⌜ Performs (H·Host .did) (T·Terminal .did) 1 (call (Calls.to-host (Calls.tell handler code))) (now (self .entry)) r (now (self .exit)) ⌝ }
     {
         let r = self.host.tell(handler, code);
         let answer = plain_answer(r);
-        self.sheet[self.used] = Record { call: CallKind::Tell, child: 0, number: u32::from(code), answer };
+        self.sheet[self.used] = Record {
+            call: CallKind::Tell,
+            child: 0,
+            number: u32::from(code),
+            answer,
+        };
         self.used += 1;
         r
     }
 
-    pub fn release(&mut self)
+    pub(crate) fn release(&mut self)
         requires { ⌜ now self .used < length (now (now self .sheet)) ⌝ }
         ensures { λ _. ⌜ Performs (H·Host .did) (T·Terminal .did) 1 (call (Calls.to-terminal Calls.release)) (now (self .entry)) tt (now (self .exit)) ⌝ }
     {
         self.terminal.release();
-        self.sheet[self.used] = Record { call: CallKind::Release, child: 0, number: 0, answer: Answer::Nothing };
+        self.sheet[self.used] = Record {
+            call: CallKind::Release,
+            child: 0,
+            number: 0,
+            answer: Answer::Nothing,
+        };
         self.used += 1;
     }
 }

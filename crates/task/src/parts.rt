@@ -43,7 +43,13 @@ fn yield_foreground<H: Host, T: Terminal>(task: &mut Task, out: &mut Outside<'_,
 }
 
 // Kills the child and waits for its end, which is then the state.
-fn end_by_force<H: Host, T: Terminal>(task: &mut Task, out: &mut Outside<'_, '_, '_, H, T>, child: u32, started: u64, time: u64) -> Result<(), u16>
+fn end_by_force<H: Host, T: Terminal>(
+    task: &mut Task,
+    out: &mut Outside<'_, '_, '_, H, T>,
+    child: u32,
+    started: u64,
+    time: u64,
+) -> Result<(), u16>
     requires { ⌜ now out .used + 2 ≤ length (now (now out .sheet)) ⌝ }
     ensures { λ r. ⌜ Performs (H·Host .did) (T·Terminal .did) 2 (Tree.end-by-force child started time (task-view (now (task .entry)))) (now (out .entry)) (task-view (now (task .exit)), r) (now (out .exit)) ⌝ }
 {
@@ -52,7 +58,11 @@ fn end_by_force<H: Host, T: Terminal>(task: &mut Task, out: &mut Outside<'_, '_,
     }
     match out.wait(child) {
         Ok(end) => {
-            task.state = CommandState::Finished { end, started, finished: time };
+            task.state = CommandState::Finished {
+                end,
+                started,
+                finished: time,
+            };
             Ok(())
         }
         Err(code) => Err(code),
@@ -60,7 +70,10 @@ fn end_by_force<H: Host, T: Terminal>(task: &mut Task, out: &mut Outside<'_, '_,
 }
 
 // The options of a spawn: the hook's answer, or the command's.
-fn spawn_options<H: Host, T: Terminal>(task: &Task, out: &mut Outside<'_, '_, '_, H, T>) -> SpawnOptions
+fn spawn_options<H: Host, T: Terminal>(
+    task: &Task,
+    out: &mut Outside<'_, '_, '_, H, T>,
+) -> SpawnOptions
     requires { ⌜ now out .used + 1 ≤ length (now (now out .sheet)) ⌝ }
     ensures { λ r. ⌜ Performs (H·Host .did) (T·Terminal .did) 1 (Tree.spawn-options (task-view (now (task .entry)))) (now (out .entry)) r (now (out .exit)) ⌝ }
 {
@@ -84,14 +97,21 @@ fn reset(task: &mut Task, time: u64)
 fn run_child(task: &mut Task, child: u32, time: u64)
     ensures { λ _. ⌜ task-view (now (task .exit)) ≡ Tree.started child time (task-view (now (task .entry))) ⌝ }
 {
-    task.state = CommandState::Running { child, started: time };
+    task.state = CommandState::Running {
+        child,
+        started: time,
+    };
     task.foreground.paused = None;
     task.foreground.pauses.clear();
     task.foreground.watch = task.command.options.grant_foreground;
 }
 
 // Spawns the command anew.
-fn launch<H: Host, T: Terminal>(task: &mut Task, out: &mut Outside<'_, '_, '_, H, T>, time: u64) -> Result<(), u16>
+fn launch<H: Host, T: Terminal>(
+    task: &mut Task,
+    out: &mut Outside<'_, '_, '_, H, T>,
+    time: u64,
+) -> Result<(), u16>
     requires { ⌜ now out .used + 2 ≤ length (now (now out .sheet)) ⌝ }
     ensures { λ r. ⌜ Performs (H·Host .did) (T·Terminal .did) 2 (Tree.launch time (task-view (now (task .entry)))) (now (out .entry)) (task-view (now (task .exit)), r) (now (out .exit)) ⌝ }
 {
@@ -107,7 +127,11 @@ fn launch<H: Host, T: Terminal>(task: &mut Task, out: &mut Outside<'_, '_, '_, H
 }
 
 // Tells a fault to the error handler, if one is set.
-fn report<H: Host, T: Terminal>(handler: Option<u8>, out: &mut Outside<'_, '_, '_, H, T>, result: Result<(), u16>)
+fn report<H: Host, T: Terminal>(
+    handler: Option<u8>,
+    out: &mut Outside<'_, '_, '_, H, T>,
+    result: Result<(), u16>,
+)
     requires { ⌜ now out .used + 1 ≤ length (now (now out .sheet)) ⌝ }
     ensures { λ _. ⌜ Performs (H·Host .did) (T·Terminal .did) 1 (Tree.told handler result) (now (out .entry)) tt (now (out .exit)) ⌝ }
 {
@@ -117,7 +141,11 @@ fn report<H: Host, T: Terminal>(handler: Option<u8>, out: &mut Outside<'_, '_, '
 }
 
 // Starts the command if no child runs.
-fn start<H: Host, T: Terminal>(task: &mut Task, out: &mut Outside<'_, '_, '_, H, T>, time: u64) -> Outcome
+fn start<H: Host, T: Terminal>(
+    task: &mut Task,
+    out: &mut Outside<'_, '_, '_, H, T>,
+    time: u64,
+) -> Outcome
     requires { ⌜ now out .used + 3 ≤ length (now (now out .sheet)) ⌝ }
     ensures { λ r. ⌜ Performs (H·Host .did) (T·Terminal .did) 3 (Tree.control Control.Start time (task-view (now (task .entry)))) (now (out .entry)) (task-view (now (task .exit)), r) (now (out .exit)) ⌝ }
 {
@@ -140,7 +168,11 @@ fn ended_if(forced: Result<(), u16>) -> Outcome
 }
 
 // Ends the child by force, if one runs; the pause and the terminal were seen to.
-fn stop_child<H: Host, T: Terminal>(task: &mut Task, out: &mut Outside<'_, '_, '_, H, T>, time: u64) -> Outcome
+fn stop_child<H: Host, T: Terminal>(
+    task: &mut Task,
+    out: &mut Outside<'_, '_, '_, H, T>,
+    time: u64,
+) -> Outcome
     requires { ⌜ now out .used + 3 ≤ length (now (now out .sheet)) ⌝ }
     ensures { λ r. ⌜ Performs (H·Host .did) (T·Terminal .did) 3 (Tree.stop-in (now (task .entry) .state) time (task-view (now (task .entry)))) (now (out .entry)) (task-view (now (task .exit)), r) (now (out .exit)) ⌝ }
 {
@@ -153,7 +185,11 @@ fn stop_child<H: Host, T: Terminal>(task: &mut Task, out: &mut Outside<'_, '_, '
 }
 
 // Ends the child by force, if one runs.
-fn stop<H: Host, T: Terminal>(task: &mut Task, out: &mut Outside<'_, '_, '_, H, T>, time: u64) -> Outcome
+fn stop<H: Host, T: Terminal>(
+    task: &mut Task,
+    out: &mut Outside<'_, '_, '_, H, T>,
+    time: u64,
+) -> Outcome
     requires { ⌜ now out .used + 5 ≤ length (now (now out .sheet)) ⌝ }
     ensures { λ r. ⌜ Performs (H·Host .did) (T·Terminal .did) 5 (Tree.control Control.Stop time (task-view (now (task .entry)))) (now (out .entry)) (task-view (now (task .exit)), r) (now (out .exit)) ⌝ }
 {
@@ -173,7 +209,12 @@ fn next_ending(state: CommandState) -> Outcome
 }
 
 // Carries a control out.
-pub fn carry_out<H: Host, T: Terminal>(task: &mut Task, out: &mut Outside<'_, '_, '_, H, T>, control: Control, time: u64) -> Outcome
+pub(crate) fn carry_out<H: Host, T: Terminal>(
+    task: &mut Task,
+    out: &mut Outside<'_, '_, '_, H, T>,
+    control: Control,
+    time: u64,
+) -> Outcome
     requires { ⌜ now out .used + 7 ≤ length (now (now out .sheet)) ⌝ }
     ensures { λ r. ⌜ Performs (H·Host .did) (T·Terminal .did) 7 (Tree.control control time (task-view (now (task .entry)))) (now (out .entry)) (task-view (now (task .exit)), r) (now (out .exit)) ⌝ }
 {
@@ -185,7 +226,13 @@ pub fn carry_out<H: Host, T: Terminal>(task: &mut Task, out: &mut Outside<'_, '_
 }
 
 // What a poll of the running child was answered: goes on, has ended, or a fault.
-fn polled<H: Host, T: Terminal>(task: &mut Task, out: &mut Outside<'_, '_, '_, H, T>, started: u64, time: u64, answer: Result<Option<ProcessEnd>, u16>) -> PollOutcome
+fn polled<H: Host, T: Terminal>(
+    task: &mut Task,
+    out: &mut Outside<'_, '_, '_, H, T>,
+    started: u64,
+    time: u64,
+    answer: Result<Option<ProcessEnd>, u16>,
+) -> PollOutcome
     requires { ⌜ now out .used + 1 ≤ length (now (now out .sheet)) ⌝ }
     ensures { λ r. ⌜ Performs (H·Host .did) (T·Terminal .did) 1 (Tree.polled started time (task-view (now (task .entry))) answer) (now (out .entry)) (task-view (now (task .exit)), r) (now (out .exit)) ⌝ }
 {
@@ -199,13 +246,21 @@ fn polled<H: Host, T: Terminal>(task: &mut Task, out: &mut Outside<'_, '_, '_, H
     let Some(end) = end else {
         return PollOutcome::Idle;
     };
-    task.state = CommandState::Finished { end, started, finished: time };
+    task.state = CommandState::Finished {
+        end,
+        started,
+        finished: time,
+    };
     yield_foreground(task, out);
     PollOutcome::Over
 }
 
 // Polls the child, if one runs.
-pub fn poll_child<H: Host, T: Terminal>(task: &mut Task, out: &mut Outside<'_, '_, '_, H, T>, time: u64) -> PollOutcome
+pub(crate) fn poll_child<H: Host, T: Terminal>(
+    task: &mut Task,
+    out: &mut Outside<'_, '_, '_, H, T>,
+    time: u64,
+) -> PollOutcome
     requires { ⌜ now out .used + 2 ≤ length (now (now out .sheet)) ⌝ }
     ensures { λ r. ⌜ Performs (H·Host .did) (T·Terminal .did) 2 (Tree.poll-child time (task-view (now (task .entry)))) (now (out .entry)) (task-view (now (task .exit)), r) (now (out .exit)) ⌝ }
 {

@@ -1,24 +1,24 @@
-//! The ticket table of a job. A ticket is a flag that is raised once.
+// The ticket table of a job. A ticket is a flag that is raised once.
 
 ghost use Rattle.tickets.specs.Searches.{First, is-sought, made};
 ghost use Rattle.tickets.specs.Tickets.{change, found, free-entry, free-places, issue-last, issue-serial, issue-table, mark-by, raise, raise-each, risen, ticket-room, vacate};
 ghost use lib.ListN.{length, replicate};
 ghost use mathlib.Core.Path.{_≡_};
 
-/// What a place of the table has.
+// What a place of the table has.
 #[derive(Clone, Copy, PartialEq, Eq, Debug)]
 pub enum Mark {
-    /// No ticket.
+    // No ticket.
     Free,
-    /// A ticket that waits and that nobody holds.
+    // A ticket that waits and that nobody holds.
     Unheld,
-    /// A ticket that waits and is held.
+    // A ticket that waits and is held.
     Held,
-    /// A ticket that is raised and held.
+    // A ticket that is raised and held.
     Raised,
 }
 
-/// A place of the table. A free one has serial 0, which is no ticket's.
+// A place of the table. A free one has serial 0, which is no ticket's.
 #[derive(Clone, Copy)]
 pub struct Entry {
     pub serial: u32,
@@ -31,7 +31,7 @@ impl Entry {
         mark: Mark::Free,
     };
 
-    /// The place once its ticket is raised; a ticket that nobody holds leaves its place.
+    // The place once its ticket is raised; a ticket that nobody holds leaves its place.
     fn risen(self) -> Entry
         ensures { λ r. ⌜ r ≡ risen self ⌝ }
     {
@@ -45,7 +45,7 @@ impl Entry {
     }
 }
 
-/// Which place is sought: a free one, the one where a ticket waits, or the one that a ticket has.
+// Which place is sought: a free one, the one where a ticket waits, or the one that a ticket has.
 #[derive(Clone, Copy)]
 enum Sought {
     Free,
@@ -54,7 +54,7 @@ enum Sought {
 }
 
 impl Sought {
-    /// Whether the place is the one sought.
+    // Whether the place is the one sought.
     fn matches(self, e: Entry) -> bool
         ensures { λ r. ⌜ r ≡ is-sought self e ⌝ }
     {
@@ -67,7 +67,7 @@ impl Sought {
     }
 }
 
-/// What is made of a place.
+// What is made of a place.
 #[derive(Clone, Copy)]
 enum Change {
     Raise,
@@ -75,7 +75,7 @@ enum Change {
 }
 
 impl Change {
-    /// What becomes of the place.
+    // What becomes of the place.
     fn made(self, e: Entry) -> Entry
         ensures { λ r. ⌜ r ≡ made self e ⌝ }
     {
@@ -86,7 +86,7 @@ impl Change {
     }
 }
 
-/// 256 places, and the last serial given out. Serials count from 1 and are never given twice.
+// 256 places, and the last serial given out. Serials count from 1 and are never given twice.
 #[derive(Clone, Copy)]
 pub struct Tickets {
     entries: [Entry; 256],
@@ -95,7 +95,7 @@ pub struct Tickets {
 }
 
 impl Tickets {
-    /// A table with every place free.
+    // A table with every place free.
     pub fn new() -> Self
         ensures entries { λ r. ⌜ r .entries ≡ replicate 256 free-entry ⌝ }
         ensures issued { λ r. ⌜ r .issued ≡ 0 ⌝ }
@@ -106,7 +106,7 @@ impl Tickets {
         }
     }
 
-    /// The first place that is sought.
+    // The first place that is sought.
     fn find(&self, sought: Sought) -> Option<usize>
         ensures { λ r. ⌜ First (is-sought sought) (now (self .entry) .entries) r ⌝ }
     {
@@ -118,7 +118,7 @@ impl Tickets {
         None
     }
 
-    /// The mark of the first place that is sought, `Free` where there is none.
+    // The mark of the first place that is sought, `Free` where there is none.
     fn mark_of(&self, sought: Sought) -> Mark
         ensures { λ r. ⌜ r ≡ mark-by (is-sought sought) (now (self .entry) .entries) ⌝ }
     {
@@ -128,7 +128,7 @@ impl Tickets {
         }
     }
 
-    /// Changes the first place that is sought, or nothing where there is none.
+    // Changes the first place that is sought, or nothing where there is none.
     fn alter(&mut self, sought: Sought, to: Change)
         ensures entries { λ _. ⌜ now (self .exit) .entries ≡ change (is-sought sought) (made to) (now (self .entry) .entries) ⌝ }
         ensures issued { λ _. ⌜ now (self .exit) .issued ≡ now (self .entry) .issued ⌝ }
@@ -138,7 +138,7 @@ impl Tickets {
         }
     }
 
-    /// How many places are free.
+    // How many places are free.
     fn free_places(&self) -> usize
         ensures { λ r. ⌜ r ≡ free-places (now (self .entry) .entries) ⌝ }
     {
@@ -151,14 +151,14 @@ impl Tickets {
         n
     }
 
-    /// Whether `n` more tickets can be given: whether there are places and serials for them.
+    // Whether `n` more tickets can be given: whether there are places and serials for them.
     pub fn fits(&self, n: usize) -> bool
         ensures { λ r. ⌜ r ≡ ticket-room n (now (self .entry) .issued) (now (self .entry) .entries) ⌝ }
     {
         n <= self.free_places() && n <= (u32::MAX - self.issued) as usize
     }
 
-    /// Gives the next serial the first free place; none where there is no place or no serial.
+    // Gives the next serial the first free place; none where there is no place or no serial.
     pub fn issue(&mut self, held: bool) -> Option<u32>
         ensures answer { λ r. ⌜ r ≡ issue-serial (now (self .entry) .issued) (now (self .entry) .entries) ⌝ }
         ensures entries { λ _. ⌜ now (self .exit) .entries ≡ issue-table held (now (self .entry) .issued) (now (self .entry) .entries) ⌝ }
@@ -174,7 +174,7 @@ impl Tickets {
         Some(serial)
     }
 
-    /// Raises the waiting ticket `serial`; nothing changes where none waits.
+    // Raises the waiting ticket `serial`; nothing changes where none waits.
     pub fn raise(&mut self, serial: u32)
         ensures entries { λ _. ⌜ now (self .exit) .entries ≡ raise serial (now (self .entry) .entries) ⌝ }
         ensures issued { λ _. ⌜ now (self .exit) .issued ≡ now (self .entry) .issued ⌝ }
@@ -182,7 +182,7 @@ impl Tickets {
         self.alter(Sought::Waiting(serial), Change::Raise);
     }
 
-    /// Raises each ticket of a list, the first first.
+    // Raises each ticket of a list, the first first.
     pub fn raise_each(&mut self, serials: &[u32])
         ensures entries { λ _. ⌜ now (self .exit) .entries ≡ raise-each (now (serials .entry)) (now (self .entry) .entries) ⌝ }
         ensures issued { λ _. ⌜ now (self .exit) .issued ≡ now (self .entry) .issued ⌝ }
@@ -192,14 +192,14 @@ impl Tickets {
         }
     }
 
-    /// The mark of the ticket `serial`, `Free` where it has no place.
+    // The mark of the ticket `serial`, `Free` where it has no place.
     pub fn mark(&self, serial: u32) -> Mark
         ensures { λ r. ⌜ r ≡ found serial (now (self .entry) .entries) ⌝ }
     {
         self.mark_of(Sought::Placed(serial))
     }
 
-    /// Frees the place of the ticket `serial`, whatever its mark; nothing changes where it has none.
+    // Frees the place of the ticket `serial`, whatever its mark; nothing changes where it has none.
     pub fn vacate(&mut self, serial: u32)
         ensures entries { λ _. ⌜ now (self .exit) .entries ≡ vacate serial (now (self .entry) .entries) ⌝ }
         ensures issued { λ _. ⌜ now (self .exit) .issued ≡ now (self .entry) .issued ⌝ }

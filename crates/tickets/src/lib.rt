@@ -1,3 +1,3 @@
-//! The tickets of a job.
+// The tickets of a job.
 
 pub mod flag;

@@ -7,18 +7,18 @@ ghost use Rattle.tickets.specs.Tickets.{found};
 ghost use Rattle.supervisor.specs.Errors.{Refused};
 ghost use Rattle.supervisor.specs.Job as Spec;
 ghost use Rattle.supervisor.specs.Steps.{job-view, view-made};
+use super::Job;
 use crate::errors::Refusal;
-use task::messages::Control;
 use crate::priority::Mailbox;
 use crate::priority::Priority;
-use task::task::Foreground;
-use task::task::Settings;
-use task::task::Task;
 use host::command::Command;
 use host::command::SpawnOptions;
 use host::state::CommandState;
 use ring::queue::Queue;
-use super::Job;
+use task::messages::Control;
+use task::task::Foreground;
+use task::task::Settings;
+use task::task::Task;
 use tickets::flag::Mark;
 
 impl Job {
@@ -34,12 +34,26 @@ impl Job {
         };
         let task = Task {
             command: Command { program, options },
-            settings: Settings { handler: None, hook: None, way: 0 },
+            settings: Settings {
+                handler: None,
+                hook: None,
+                way: 0,
+            },
             state: CommandState::Pending,
             previous: None,
-            foreground: Foreground { paused: None, pauses: Queue::new(0), watch: false, grant: false },
+            foreground: Foreground {
+                paused: None,
+                pauses: Queue::new(0),
+                watch: false,
+                grant: false,
+            },
         };
-        Ok(Job { closed: false, task, mailbox: Mailbox::new(), clock: 0 })
+        Ok(Job {
+            closed: false,
+            task,
+            mailbox: Mailbox::new(),
+            clock: 0,
+        })
     }
 
     // The command that the job manages.

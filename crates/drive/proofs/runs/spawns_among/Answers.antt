@@ -9,8 +9,7 @@ add-count c = omega (arith, c .spawn-count-count .ensures, spawn-one (getD (c .a
 
 pub loop-i-again : need.loop-i-again
 loop-i-again c =
-    let lt : c .loop-i .i < length (c .args .sheet .now) = omega arith in
-    (
+    let lt : c .loop-i .i < length (c .args .sheet .now) = omega arith in (
       omega (arith, c .spawn-count-count .ensures, spawn-one (getD (c .args .sheet .now) (c .loop-i .i) no-record .call)),
-      omega (arith, c .spawn-count-count .ensures, spawns-more (c .args .sheet .now) (c .loop-i .i) no-record lt)
+      omega (arith, c .spawn-count-count .ensures, spawns-more (c .args .sheet .now) (c .loop-i .i) no-record lt),
     )

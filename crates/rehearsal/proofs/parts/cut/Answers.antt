@@ -17,9 +17,11 @@ returns-then-n-text c =
     let m = c .args .mark in
     let n = c .part-length-n .result in
     let e = c .part-length-n .ensures .is in
-    record { first = ap (λ i. take i s) (sub-zero n ∙ e) ∙ take-before m s;
+    record {
+      first = ap (λ i. take i s) (sub-zero n ∙ e) ∙ take-before m s;
       rest = ap Some (take-rest s (n + 1) ∙ ap (λ i. drop i s) (add-one n) ∙ ap (λ i. drop (suc i) s) e) ∙ drop-before m s (omega arith);
-      shorter = search needs }
+      shorter = search needs;
+    }
 
 pub returns-else-n-text : need.returns-else-n-text
 returns-else-n-text c =

@@ -16,11 +16,15 @@ pub returns-in-Some-parse : need.returns-in-Some-parse
 returns-in-Some-parse c =
     let n = c .args .number in
     let line = c .in-Some-parse .line in
-    record { says = first-line n (c .args .left .now) (c .in-Some .rest .now) (Some line) (sym (c .cut .ensures .rest) ∙ ap (mapped now) (c .in-Some .is)) (sym (c .in-Some-parse .is) ∙ c .parse .ensures ∙ ap (λ t. line-of (eqb n 1) (lettered t)) (c .cut .ensures .first));
-      shorter = search needs }
+    record {
+      says = first-line n (c .args .left .now) (c .in-Some .rest .now) (Some line) (sym (c .cut .ensures .rest) ∙ ap (mapped now) (c .in-Some .is)) (sym (c .in-Some-parse .is) ∙ c .parse .ensures ∙ ap (λ t. line-of (eqb n 1) (lettered t)) (c .cut .ensures .first));
+      shorter = search needs;
+    }
 
 pub returns-in-None : need.returns-in-None
 returns-in-None c =
     let n = c .args .number in
-    record { says = first-line n (c .args .left .now) (c .in-Some .rest .now) None (sym (c .cut .ensures .rest) ∙ ap (mapped now) (c .in-Some .is)) (sym (c .in-None .is) ∙ c .parse .ensures ∙ ap (λ t. line-of (eqb n 1) (lettered t)) (c .cut .ensures .first));
-      shorter = tt }
+    record {
+      says = first-line n (c .args .left .now) (c .in-Some .rest .now) None (sym (c .cut .ensures .rest) ∙ ap (mapped now) (c .in-Some .is)) (sym (c .in-None .is) ∙ c .parse .ensures ∙ ap (λ t. line-of (eqb n 1) (lettered t)) (c .cut .ensures .first));
+      shorter = tt;
+    }

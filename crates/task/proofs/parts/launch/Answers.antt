@@ -15,10 +15,10 @@ spawning time t = bind (Tree.spawn-options t) (Tree.spawn time t)
 pub returns-in-Ok : need.returns-in-Ok
 returns-in-Ok g c =
     at-value (spawning (c .args .time)) (c .reset .ensures)
-      (and-then (Tree.spawn-options (task-view (c .reset .last .task))) _ (c .spawn-options-options .ensures)
-        (and-then (call _) _ (c .in-Ok .ensures tt) (still-at (ap (λ (t : Tree.TaskView). (t, Ok tt)) (c .run-child .ensures)))))
+    (and-then (Tree.spawn-options (task-view (c .reset .last .task))) _ (c .spawn-options-options .ensures)
+    (and-then (call _) _ (c .in-Ok .ensures tt) (still-at (ap (λ (t : Tree.TaskView). (t, Ok tt)) (c .run-child .ensures)))))
 
 pub returns-in-Err : need.returns-in-Err
 returns-in-Err g c =
     at-value (spawning (c .args .time)) (c .reset .ensures)
-      (and-then (Tree.spawn-options (task-view (c .reset .last .task))) _ (c .spawn-options-options .ensures) (and-then (call _) _ (c .in-Err .ensures tt) still))
+    (and-then (Tree.spawn-options (task-view (c .reset .last .task))) _ (c .spawn-options-options .ensures) (and-then (call _) _ (c .in-Err .ensures tt) still))

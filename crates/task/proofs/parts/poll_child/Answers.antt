@@ -9,4 +9,4 @@ use Rattle.task.proofs.parts.poll_child.Needs as need
 pub returns : need.returns
 returns g c =
     at-value (λ (s : CommandState). Tree.poll-in s (c .args .time) (task-view (c .args .task .now))) (sym (c .in-Running .is))
-      (and-then (call _) _ (c .poll-answer .ensures) (c .polled .ensures))
+    (and-then (call _) _ (c .poll-answer .ensures) (c .polled .ensures))

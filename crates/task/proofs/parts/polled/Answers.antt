@@ -9,9 +9,9 @@ use Rattle.task.proofs.parts.polled.Needs as need
 pub returns-in-Err : need.returns-in-Err
 returns-in-Err g c =
     at-value (Tree.polled (c .args .started) (c .args .time) (task-view (c .args .task .now))) (sym (c .in-Err .is))
-      (and-then (Tree.told (c .args .task .now .settings .handler) (Err (c .in-Err .code))) _ (c .report .ensures) still)
+    (and-then (Tree.told (c .args .task .now .settings .handler) (Err (c .in-Err .code))) _ (c .report .ensures) still)
 
 pub returns : need.returns
 returns g c =
     at-value (Tree.polled (c .args .started) (c .args .time) (task-view (c .args .task .now))) (sym (c .in-Ok .is ∙ ap Ok (c .in-Some .is)))
-      (and-then (Tree.yield (Tree.in-state (Finished (c .in-Some .end) (c .args .started) (c .args .time)) (task-view (c .args .task .now)))) _ (c .yield-foreground .ensures) still)
+    (and-then (Tree.yield (Tree.in-state (Finished (c .in-Some .end) (c .args .started) (c .args .time)) (task-view (c .args .task .now)))) _ (c .yield-foreground .ensures) still)

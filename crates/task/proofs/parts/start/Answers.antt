@@ -10,4 +10,4 @@ returns g c =
     let t = task-view (c .args .task .now) in
     let part = Tree.launch (c .args .time) t in
     at-value (λ (b : Bool). Tree.start-unless b (c .args .time) t) (c .if-is-running .ensures tt)
-      (and-then (Tree.reported part) _ (telling part (c .launch-launched .ensures) (c .report .ensures)) still)
+    (and-then (Tree.reported part) _ (telling part (c .launch-launched .ensures) (c .report .ensures)) still)

@@ -12,5 +12,5 @@ returns g c =
     let t = task-view (c .args .task .now) in
     let part = Tree.end-by-force (c .in-Running .child) (c .in-Running .started) (c .args .time) t in
     at-value (λ (s : CommandState). Tree.stop-in s (c .args .time) t) (sym (c .in-Running .is))
-      (and-then (Tree.reported part) _ (telling part (c .end-by-force-forced .ensures) (c .report .ensures))
-        (still-at (ap (λ (o : Outcome). (task-view (c .end-by-force-forced .last .task), o)) (c .ended-if .ensures))))
+    (and-then (Tree.reported part) _ (telling part (c .end-by-force-forced .ensures) (c .report .ensures))
+    (still-at (ap (λ (o : Outcome). (task-view (c .end-by-force-forced .last .task), o)) (c .ended-if .ensures))))

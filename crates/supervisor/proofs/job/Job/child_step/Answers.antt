@@ -22,9 +22,9 @@ ghost-self g c =
     let j = c .args .self .now in
     let run = c .in-Some-poll .ensures tt .1 in
     let order : j .closed ≡ false → In-order [] (mailbox-view (c .after-poll .last .self)) =
-        λ e. subst (In-order []) (sym (c .after-poll .ensures)) (after-poll-in (c .in-Some-poll .outcome) (mailbox-view (j .mailbox)) (order-of j e)) in
+    λ e. subst (In-order []) (sym (c .after-poll .ensures)) (after-poll-in (c .in-Some-poll .outcome) (mailbox-view (j .mailbox)) (order-of j e)) in
     let granted : Granted (task-view (c .poll .last .task)) =
-        always-ends (Answered (g .H·Host .did) (g .T·Terminal .did)) (λ x. Granted (x .0)) (poll-child (c .args .time) (task-view (j .task))) _ _ (run .trace) _ (poll-granted (c .args .time) (task-view (j .task)) (j .granted)) (run .traces) in
+    always-ends (Answered (g .H·Host .did) (g .T·Terminal .did)) (λ x. Granted (x .0)) (poll-child (c .args .time) (task-view (j .task))) _ _ (run .trace) _ (poll-granted (c .args .time) (task-view (j .task)) (j .granted)) (run .traces) in
     (λ e. order e .balance, (λ e. order e .once, (λ e. order e .later, (granted, (in-time (c .args .time) _ (job-view j) (c .in-rest .ensures tt), tt)))))
 
 pub returns : need.returns

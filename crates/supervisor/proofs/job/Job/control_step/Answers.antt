@@ -37,24 +37,28 @@ ghost-self-2 g c =
     let message = c .in-Some-receive .message in
     let run = c .in-Some-control .ensures tt .1 in
     let order : j .closed ≡ false → In-order [] (mailbox-view (c .settle .last .self)) =
-        λ e. subst (In-order []) (sym (c .settle .ensures)) (settle-in (c .in-Some-control .outcome) (message .ticket) _ (in-hand (mailbox-view (j .mailbox)) message _ (order-of j e) (c .in-Some-receive .ensures tt .taken))) in
+    λ e. subst (In-order []) (sym (c .settle .ensures)) (settle-in (c .in-Some-control .outcome) (message .ticket) _ (in-hand (mailbox-view (j .mailbox)) message _ (order-of j e) (c .in-Some-receive .ensures tt .taken))) in
     let granted : Granted (task-view (c .control .last .task)) =
-        always-ends (Answered (g .H·Host .did) (g .T·Terminal .did)) (λ x. Granted (x .0)) (control (message .control) (c .args .time) t) _ _ (run .trace) _ (control-granted (message .control) (c .args .time) t (j .granted)) (run .traces) in
+    always-ends (Answered (g .H·Host .did) (g .T·Terminal .did)) (λ x. Granted (x .0)) (control (message .control) (c .args .time) t) _ _ (run .trace) _ (control-granted (message .control) (c .args .time) t (j .granted)) (run .traces) in
     (λ e. order e .balance, (λ e. order e .once, (λ e. order e .later, (granted, (in-time (c .args .time) _ (job-view j) (c .in-rest .ensures tt), tt)))))
 
 pub returns-in-rest-receive : need.returns-in-rest-receive
 returns-in-rest-receive g c =
-    let j = c .args .self .now in
-    (sym (c .in-rest .ensures tt), accepted (g .H·Host .did) (g .T·Terminal .did) (g .H·Host .book) (g .T·Terminal .book) (g .H·Host .most) (g .H·Host·met .keeps) (g .T·Terminal·met .keeps) (control-step (c .args .time) (job-view j)) _ _ _ (control-step-few (c .args .time) (job-view j))
-      (at-value (λ (t : Taken). carry-out t (c .args .time) (job-view j)) (sym (c .in-rest-receive .ensures tt .taken))
-        (silent (same-stepping (j .closed) (task-view (j .task)) (c .args .time) (ap (λ (q : QueuesView). with-queues q (mailbox-view (j .mailbox))) (c .in-rest-receive .ensures tt .idle refl)) refl refl))))
+    let j = c .args .self .now in (
+      sym (c .in-rest .ensures tt),
+      accepted (g .H·Host .did) (g .T·Terminal .did) (g .H·Host .book) (g .T·Terminal .book) (g .H·Host .most) (g .H·Host·met .keeps) (g .T·Terminal·met .keeps) (control-step (c .args .time) (job-view j)) _ _ _ (control-step-few (c .args .time) (job-view j))
+          (at-value (λ (t : Taken). carry-out t (c .args .time) (job-view j)) (sym (c .in-rest-receive .ensures tt .taken))
+          (silent (same-stepping (j .closed) (task-view (j .task)) (c .args .time) (ap (λ (q : QueuesView). with-queues q (mailbox-view (j .mailbox))) (c .in-rest-receive .ensures tt .idle refl)) refl refl))),
+    )
 
 pub returns : need.returns
 returns g c =
     let j = c .args .self .now in
     let message = c .in-Some-receive .message in
-    let q = queues-view (c .receive .last .self) in
-    (sym (c .in-rest .ensures tt), accepted (g .H·Host .did) (g .T·Terminal .did) (g .H·Host .book) (g .T·Terminal .book) (g .H·Host .most) (g .H·Host·met .keeps) (g .T·Terminal·met .keeps) (control-step (c .args .time) (job-view j)) _ _ _ (control-step-few (c .args .time) (job-view j))
-      (at-value (λ (t : Taken). carry-out t (c .args .time) (job-view j)) (sym (c .in-Some-receive .ensures tt .taken))
-        (then-done (control (message .control) (c .args .time) (task-view (j .task))) (carried (c .args .time) (job-view j) message q)
-          (same-stepping (j .closed) _ (c .args .time) (c .settle .ensures) refl (c .orders-start .ensures)) (c .in-Some-control .ensures tt .1))))
+    let q = queues-view (c .receive .last .self) in (
+      sym (c .in-rest .ensures tt),
+      accepted (g .H·Host .did) (g .T·Terminal .did) (g .H·Host .book) (g .T·Terminal .book) (g .H·Host .most) (g .H·Host·met .keeps) (g .T·Terminal·met .keeps) (control-step (c .args .time) (job-view j)) _ _ _ (control-step-few (c .args .time) (job-view j))
+          (at-value (λ (t : Taken). carry-out t (c .args .time) (job-view j)) (sym (c .in-Some-receive .ensures tt .taken))
+          (then-done (control (message .control) (c .args .time) (task-view (j .task))) (carried (c .args .time) (job-view j) message q)
+          (same-stepping (j .closed) _ (c .args .time) (c .settle .ensures) refl (c .orders-start .ensures)) (c .in-Some-control .ensures tt .1))),
+    )

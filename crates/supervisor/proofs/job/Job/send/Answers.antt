@@ -11,5 +11,5 @@ ghost-self c =
     let j = c .args .self .now in
     let room = free-of (c .args .priority) (mailbox-view (j .mailbox)) (c .in-rest .ensures tt) in
     let order : j .closed ≡ false → In-order [] (mailbox-view (c .admit .last .self)) =
-        λ e. subst (In-order []) (sym (c .admit .ensures .after)) (admit-in (c .args .priority) (c .args .control) true (mailbox-view (j .mailbox)) (order-of j e) room) in
+    λ e. subst (In-order []) (sym (c .admit .ensures .after)) (admit-in (c .args .priority) (c .args .control) true (mailbox-view (j .mailbox)) (order-of j e) room) in
     (λ e. order e .balance, (λ e. order e .once, (λ e. order e .later, (j .granted, (j .timely, tt)))))
