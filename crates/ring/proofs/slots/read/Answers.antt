@@ -4,5 +4,5 @@ use Rattle.std.proofs.Common.{arith, rules}
 
 pub returns : goal.returns
 returns g c =
-    let e = items-nth c.args.slots.now c.args.ring.now (omega arith) c.args.i c.index-slots-slot-after.result c.requires.below c.requires.within.0 in
+    let e = items-nth c.args.slots.now c.args.ring.now (omega arith) c.args.i c.index-slots-slot_after.result c.requires.below c.requires.within.0 in
     search rules
