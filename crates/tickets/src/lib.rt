@@ -1,3 +1,4 @@
 // The tickets of a job.
+#![tactic(auto)]
 
 pub mod flag;

@@ -13,9 +13,9 @@ returns-in-Some c =
       issued = refl;
     }
 
-pub returns-in-default : goal.returns-in-default
-returns-in-default c =
+pub returns-in_default : goal.returns-in_default
+returns-in_default c =
     record {
-      entries = change_none (is_sought c.args.sought) (made c.args.to) c.args.self.now.entries _ refl c.in-default.ensures;
+      entries = change_none (is_sought c.args.sought) (made c.args.to) c.args.self.now.entries _ refl c.in_default.ensures;
       issued = refl;
     }
