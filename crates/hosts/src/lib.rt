@@ -1,4 +1,6 @@
 // Hosts of a job's child processes.
+#![tactic(auto)]
+
 mod children;
 mod roster;
 mod signals;

@@ -7,11 +7,17 @@ use Rattle.hosts.specs.Roster.{items}
 use Rattle.hosts.specs.Soundness.{sound_set, sound_later}
 use Rattle.hosts.proofs.children.Roster.add.Goals as goal
 
-pub invariant-of-self : goal.invariant-of-self
-invariant-of-self c =
+pub invariant_of-self : goal.invariant_of-self
+invariant_of-self c =
     let r = c.args.self.now in
     let s = and_from _ true (lt-ltb r.next (r.next + 1) (omega arith)) refl in
-    (length-set _ _ _ ∙ r.full, (omega arith, (omega arith, (omega arith, (sound_set (r.next + 1) r.entries r.len (child r.next Going) s (sound_later r.next r.entries r.sound), tt)))))
+    record {
+      full = length-set _ _ _ ∙ r.full;
+      few = omega arith;
+      begun = omega arith;
+      within = omega arith;
+      sound = sound_set (r.next + 1) r.entries r.len (child r.next Going) s (sound_later r.next r.entries r.sound);
+    }
 
 pub returns : goal.returns
 returns c =

@@ -7,8 +7,8 @@ use Rattle.hosts.proofs.Places.{entry_at, with_life-at, with_life-off}
 use Rattle.hosts.specs.Soundness.{Sound, sound_at, sound_set}
 use Rattle.hosts.proofs.children.Roster.put.Goals as goal
 
-pub invariant-of-self : goal.invariant-of-self
-invariant-of-self c =
+pub invariant_of-self : goal.invariant_of-self
+invariant_of-self c =
     let r = c.args.self.now in
     let i = c.in-Some.at in
     let n = c.args.number in
@@ -17,7 +17,13 @@ invariant-of-self c =
     let l : i < length r.entries = omega (arith, r.few, r.full) in
     let below : ltb n r.next ≡ true = ap (λ (m : ℕ). ltb m r.next) (p.1 ∙ ap (λ (x : Child). x.number) e.1) ∙ (and_parts _ _ (sound_at r.next r.entries i l r.sound)).0 in
     let s : Sound r.next (child n c.args.life) = and_from _ _ below c.requires in
-    (length-set _ _ _ ∙ r.full, (r.few, (r.begun, (r.within, (sound_set r.next r.entries i (child n c.args.life) s r.sound, tt)))))
+    record {
+      full = length-set _ _ _ ∙ r.full;
+      few = r.few;
+      begun = r.begun;
+      within = r.within;
+      sound = sound_set r.next r.entries i (child n c.args.life) s r.sound;
+    }
 
 pub returns-in-Some : goal.returns-in-Some
 returns-in-Some c =
@@ -26,5 +32,5 @@ returns-in-Some c =
     let e = entry_at c.args.number r.len r.entries c.in-Some.at p in
     record { items = take-set-lt r.len r.entries c.in-Some.at _ e.0 ∙ sym (with_life-at _ _ _ _ p); next = refl }
 
-pub returns-in-default : goal.returns-in-default
-returns-in-default c = record { items = sym (with_life-off _ _ _ c.in-default.ensures); next = refl }
+pub returns-in_default : goal.returns-in_default
+returns-in_default c = record { items = sym (with_life-off _ _ _ c.in_default.ensures); next = refl }
