@@ -1,2 +1,4 @@
 // The terminals whose foreground a job may grant.
+#![tactic(auto)]
+
 pub mod absent;
