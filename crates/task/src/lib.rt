@@ -1,4 +1,6 @@
 // The task of a job: its controls and its poll of the child, on a host and a terminal that are lent to it.
+#![tactic(auto)]
+
 mod asking;
 pub mod conduct;
 pub mod messages;

@@ -3,4 +3,4 @@ use Rattle.task.proofs.Sheets.{conducted}
 use Rattle.task.proofs.conduct.poll.Goals as goal
 
 pub returns : goal.returns
-returns g c = (c.if-sheet-lt-LEAST-PLACES.false, conducted refl (omega arith) (search rules) (search rules) (search rules) c.poll-child-outcome.ensures)
+returns g c = (c.if-sheet-lt-LEAST_PLACES.false, conducted refl (omega arith) (search rules) (search rules) (search rules) c.poll_child-outcome.ensures)

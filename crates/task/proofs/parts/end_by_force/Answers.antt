@@ -7,7 +7,7 @@ pub returns-in-Err : goal.returns-in-Err
 returns-in-Err g c = at_most 2 (omega arith) (and_then (call _) _ c.in-Err.ensures still)
 
 pub returns-in-Ok : goal.returns-in-Ok
-returns-in-Ok g c = and_then (call _) _ c.in-default.ensures (and_then (call _) _ c.in-Ok.ensures still)
+returns-in-Ok g c = and_then (call _) _ c.in_default.ensures (and_then (call _) _ c.in-Ok.ensures still)
 
 pub returns-in-Err-wait : goal.returns-in-Err-wait
-returns-in-Err-wait g c = and_then (call _) _ c.in-default.ensures (and_then (call _) _ c.in-Err-wait.ensures still)
+returns-in-Err-wait g c = and_then (call _) _ c.in_default.ensures (and_then (call _) _ c.in-Err-wait.ensures still)

@@ -13,10 +13,10 @@ spawning time t = bind (Tree.spawn_options t) (Tree.spawn time t)
 pub returns-in-Ok : goal.returns-in-Ok
 returns-in-Ok g c =
     at_value (spawning c.args.time) c.reset.ensures
-    (and_then (Tree.spawn_options (task_view c.reset.new.task)) _ c.spawn-options-options.ensures
-    (and_then (call _) _ c.in-Ok.ensures (still_at (ap (λ (t : Tree.TaskView). (t, Ok tt)) c.run-child.ensures))))
+    (and_then (Tree.spawn_options (task_view c.reset.new.task)) _ c.spawn_options-options.ensures
+    (and_then (call _) _ c.in-Ok.ensures (still_at (ap (λ (t : Tree.TaskView). (t, Ok tt)) c.run_child.ensures))))
 
 pub returns-in-Err : goal.returns-in-Err
 returns-in-Err g c =
     at_value (spawning c.args.time) c.reset.ensures
-    (and_then (Tree.spawn_options (task_view c.reset.new.task)) _ c.spawn-options-options.ensures (and_then (call _) _ c.in-Err.ensures still))
+    (and_then (Tree.spawn_options (task_view c.reset.new.task)) _ c.spawn_options-options.ensures (and_then (call _) _ c.in-Err.ensures still))

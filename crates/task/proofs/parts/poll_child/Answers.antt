@@ -9,4 +9,4 @@ use Rattle.task.proofs.parts.poll_child.Goals as goal
 pub returns : goal.returns
 returns g c =
     at_value (λ (s : CommandState). Tree.poll_in s c.args.time (task_view c.args.task.now)) (sym c.in-Running.is)
-    (and_then (call _) _ c.poll_answer.ensures c.polled.ensures)
+    (and_then (call _) _ c.poll-answer.ensures c.polled.ensures)

@@ -13,4 +13,4 @@ returns-in-Err g c =
 pub returns : goal.returns
 returns g c =
     at_value (Tree.polled c.args.started c.args.time (task_view c.args.task.now)) (sym (c.in-Ok.is ∙ ap Ok c.in-Some.is))
-    (and_then (Tree.yield (Tree.in_state (Finished c.in-Some.end c.args.started c.args.time) (task_view c.args.task.now))) _ c.yield-foreground.ensures still)
+    (and_then (Tree.yield (Tree.in_state (Finished c.in-Some.end c.args.started c.args.time) (task_view c.args.task.now))) _ c.yield_foreground.ensures still)

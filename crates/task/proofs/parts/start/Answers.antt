@@ -9,5 +9,5 @@ pub returns : goal.returns
 returns g c =
     let t = task_view c.args.task.now in
     let part = Tree.launch c.args.time t in
-    at_value (λ (b : Bool). Tree.start_unless b c.args.time t) c.if-is-running.ensures
+    at_value (λ (b : Bool). Tree.start_unless b c.args.time t) c.if-is_running.ensures
     (and_then (Tree.reported part) _ (telling part c.launch-launched.ensures c.report.ensures) still)

@@ -12,5 +12,5 @@ returns g c =
     let t = task_view c.args.task.now in
     let part = Tree.end_by_force c.in-Running.child c.in-Running.started c.args.time t in
     at_value (λ (s : CommandState). Tree.stop_in s c.args.time t) (sym c.in-Running.is)
-    (and_then (Tree.reported part) _ (telling part c.end-by-force-forced.ensures c.report.ensures)
-    (still_at (ap (λ (o : Outcome). (task_view c.end-by-force-forced.new.task, o)) c.ended-if.ensures)))
+    (and_then (Tree.reported part) _ (telling part c.end_by_force-forced.ensures c.report.ensures)
+    (still_at (ap (λ (o : Outcome). (task_view c.end_by_force-forced.new.task, o)) c.ended_if.ensures)))
