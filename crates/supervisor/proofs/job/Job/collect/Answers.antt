@@ -5,10 +5,16 @@ use Rattle.supervisor.proofs.Mailboxes.{InOrder, vacate_in}
 use Rattle.supervisor.proofs.Jobs.{order_of, done-raised}
 use Rattle.supervisor.proofs.job.Job.collect.Goals as goal
 
-pub invariant-of-self : goal.invariant-of-self
-invariant-of-self c =
+pub invariant_of-self : goal.invariant_of-self
+invariant_of-self c =
     let j = c.args.self.now in
     let m = mailbox_view j.mailbox in
     let order : j.closed ≡ false → InOrder [] (mailbox_view c.vacate.new.self) =
     λ e. subst (InOrder []) (sym c.vacate.ensures) (vacate_in c.args.ticket m (order_of j e) (done-raised (found c.args.ticket m.table) j.closed c.in-Ok.done e c.if-not-done.false c.in-Ok.ensures)) in
-    (λ e. (order e).balance, (λ e. (order e).once, (λ e. (order e).later, (j.granted, (j.timely, tt)))))
+    record {
+      balanced = λ e. (order e).balance;
+      once = λ e. (order e).once;
+      later = λ e. (order e).later;
+      granted = j.granted;
+      timely = j.timely;
+    }

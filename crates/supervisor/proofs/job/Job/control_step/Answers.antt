@@ -24,11 +24,11 @@ in-hand m c q h e = subst (TakenIn m) e (take_in m h)
 pub settle-requires : goal.settle-requires
 settle-requires g c =
     let j = c.args.self.now in
-    let o = is_open c.args.time _ (job_view j) c.in-default.ensures in
+    let o = is_open c.args.time _ (job_view j) c.in_default.ensures in
     ending_room c.in-Some-receive.message.ticket _ (in-hand (mailbox_view j.mailbox) c.in-Some-receive.message _ (order_of j o) c.in-Some-receive.ensures.taken)
 
-pub invariant-of-self-2 : goal.invariant-of-self-2
-invariant-of-self-2 g c =
+pub invariant_of-self-2 : goal.invariant_of-self-2
+invariant_of-self-2 g c =
     let j = c.args.self.now in
     let t = task_view j.task in
     let message = c.in-Some-receive.message in
@@ -37,15 +37,21 @@ invariant-of-self-2 g c =
     λ e. subst (InOrder []) (sym c.settle.ensures) (settle_in c.in-Some-control.outcome message.ticket _ (in-hand (mailbox_view j.mailbox) message _ (order_of j e) c.in-Some-receive.ensures.taken)) in
     let granted : Granted (task_view c.control.new.task) =
     always_ends (Answered g.H.Host.did g.T.Terminal.did) (λ x. Granted x.0) (control message.control c.args.time t) _ _ run.trace _ (control_granted message.control c.args.time t j.granted) run.traces in
-    (λ e. (order e).balance, (λ e. (order e).once, (λ e. (order e).later, (granted, (in_time c.args.time _ (job_view j) c.in-default.ensures, tt)))))
+    record {
+      balanced = λ e. (order e).balance;
+      once = λ e. (order e).once;
+      later = λ e. (order e).later;
+      granted = granted;
+      timely = in_time c.args.time _ (job_view j) c.in_default.ensures;
+    }
 
-pub returns-in-default-receive : goal.returns-in-default-receive
-returns-in-default-receive g c =
+pub returns-in_default-receive : goal.returns-in_default-receive
+returns-in_default-receive g c =
     let j = c.args.self.now in (
-      sym c.in-default.ensures,
+      sym c.in_default.ensures,
       accepted g.H.Host.did g.T.Terminal.did g.H.Host.book g.T.Terminal.book g.H.Host.most g.met.H.Host.keeps g.met.T.Terminal.keeps (control_step c.args.time (job_view j)) _ _ _ (control_step_few c.args.time (job_view j))
-          (at_value (λ (t : Taken). carry_out t c.args.time (job_view j)) (sym c.in-default-receive.ensures.taken)
-          (silent (same-stepping j.closed (task_view j.task) c.args.time (ap (λ (q : QueuesView). with_queues q (mailbox_view j.mailbox)) (c.in-default-receive.ensures.idle refl)) refl refl))),
+          (at_value (λ (t : Taken). carry_out t c.args.time (job_view j)) (sym c.in_default-receive.ensures.taken)
+          (silent (same-stepping j.closed (task_view j.task) c.args.time (ap (λ (q : QueuesView). with_queues q (mailbox_view j.mailbox)) (c.in_default-receive.ensures.idle refl)) refl refl))),
     )
 
 pub returns : goal.returns
@@ -53,9 +59,9 @@ returns g c =
     let j = c.args.self.now in
     let message = c.in-Some-receive.message in
     let q = queues_view c.receive.new.self in (
-      sym c.in-default.ensures,
+      sym c.in_default.ensures,
       accepted g.H.Host.did g.T.Terminal.did g.H.Host.book g.T.Terminal.book g.H.Host.most g.met.H.Host.keeps g.met.T.Terminal.keeps (control_step c.args.time (job_view j)) _ _ _ (control_step_few c.args.time (job_view j))
           (at_value (λ (t : Taken). carry_out t c.args.time (job_view j)) (sym c.in-Some-receive.ensures.taken)
           (then_done (control message.control c.args.time (task_view j.task)) (carried c.args.time (job_view j) message q)
-          (same-stepping j.closed _ c.args.time c.settle.ensures refl c.orders-start.ensures) c.in-Some-control.ensures.1)),
+          (same-stepping j.closed _ c.args.time c.settle.ensures refl c.orders_start.ensures) c.in-Some-control.ensures.1)),
     )
