@@ -1,3 +1,5 @@
 // Runs of calls on a job.
+#![tactic(auto)]
+
 pub mod calls;
 pub mod runs;

@@ -12,11 +12,11 @@ few g c =
     makes_few g.H.Host.did g.T.Terminal.did g.H.Host.book g.T.Terminal.book (get_or c.args.calls.now c.loop-i.i Start) _ c.make-done.result
     (record { job = after.job; host = after.host; terminal = after.terminal; sheet = after.sheet }) c.make-done.ensures
 
-pub overflow-add-tried : goal.overflow-add-tried
-overflow-add-tried g c = omega (arith, (few g (goal.at.overflow-add-tried g c).After-make-done).0, c.loop-i.invariant.0)
+pub overflow_add-tried : goal.overflow_add-tried
+overflow_add-tried g c = omega (arith, (few g (goal.at.overflow_add-tried g c).After-make-done).0, c.loop-i.invariant.0)
 
-pub overflow-add-ordered : goal.overflow-add-ordered
-overflow-add-ordered g c = omega (arith, (few g (goal.at.overflow-add-ordered g c).After-make-done).1, c.loop-i.invariant.1)
+pub overflow_add-ordered : goal.overflow_add-ordered
+overflow_add-ordered g c = omega (arith, (few g (goal.at.overflow_add-ordered g c).After-make-done).1, c.loop-i.invariant.1)
 
 pub loop-i-init : goal.loop-i-init
 loop-i-init g c = (omega arith, omega arith, at_first g.H.Host.did g.T.Terminal.did g.H.Host.book g.T.Terminal.book c.args.calls.now _ c.args.answers.now)
