@@ -1,8 +1,8 @@
 use Rattle.std.proofs.Common.{◌≡◌, false, eqb, refl, rules}
 use Rattle.rehearsal.proofs.line.read_fields.Goals as goal
 
-pub returns-in-default : goal.returns-in-default
-returns-in-default c =
+pub returns-in_default : goal.returns-in_default
+returns-in_default c =
     let m : eqb c.args.letter 109 ≡ false = search rules in
     let s : eqb c.args.letter 99 ≡ false = search rules in
     let t : eqb c.args.letter 115 ≡ false = search rules in

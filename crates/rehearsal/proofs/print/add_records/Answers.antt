@@ -6,7 +6,7 @@ use Rattle.rehearsal.proofs.print.add_records.Goals as goal
 
 pub loop-written-preserved : goal.loop-written-preserved
 loop-written-preserved c =
-    one_record _ _ _ _ c.args.records.now c.loop-written.written-index _ c.loop-written-test.true c.in-ok-push-str.ensures.bytes c.as-str.ensures.value c.in-ok-printed.ensures ∙ c.loop-written.invariant
+    one_record _ _ _ _ c.args.records.now c.loop-written.written-index _ c.loop-written-test.true c.in_ok-push_str.ensures.bytes c.as_str.ensures.value c.in_ok-printed.ensures ∙ c.loop-written.invariant
 
 pub returns : goal.returns
 returns c = λ _.

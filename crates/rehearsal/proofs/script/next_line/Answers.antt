@@ -4,9 +4,9 @@ use Rattle.rehearsal.specs.Lines.{lettered, line_of}
 use Rattle.rehearsal.proofs.Reading.{first_line, last_unended}
 use Rattle.rehearsal.proofs.script.next_line.Goals as goal
 
-pub returns-in-default : goal.returns-in-default
-returns-in-default c =
-    record { says = last_unended c.args.number c.args.left.now c.requires (sym c.cut.ensures.rest ∙ ap (option_map (λ x. x.now)) c.in-default.is); shorter = tt }
+pub returns-in_default : goal.returns-in_default
+returns-in_default c =
+    record { says = last_unended c.args.number c.args.left.now c.requires (sym c.cut.ensures.rest ∙ ap (option_map (λ x. x.now)) c.in_default.is); shorter = tt }
 
 pub returns-in-Some-parse : goal.returns-in-Some-parse
 returns-in-Some-parse c =

@@ -7,12 +7,12 @@ use Rattle.rehearsal.proofs.script.read.Goals as goal
 short : (s : List ℕ) → length s ≤ 32768 → script_of s ≡ lines_from 1 [] s
 short s l = cond-false (ltb 32768 (length s)) (Err 0) (lines_from 1 [] s) (le-ltb 32768 (length s) l)
 
-pub returns-in-default : goal.returns-in-default
-returns-in-default c = short c.args.script.now (omega arith) ∙ sym c.loop-left.invariant.1 ∙ ap (after_lines (vec_items c.loop-left.lines)) c.in-default.ensures.says
+pub returns-in_default : goal.returns-in_default
+returns-in_default c = short c.args.script.now (omega arith) ∙ sym c.loop-left.invariant.1 ∙ ap (after_lines (vec_items c.loop-left.lines)) c.in_default.ensures.says
 
 pub loop-left-preserved : goal.loop-left-preserved
 loop-left-preserved c =
-    (omega (arith, c.in-Some.ensures.shorter), one_more _ _ c.loop-left.number c.in-Some.line _ _ c.in-ok-push.ensures.items c.in-Some.ensures.says ∙ c.loop-left.invariant.1)
+    (omega (arith, c.in-Some.ensures.shorter), one_more _ _ c.loop-left.number c.in-Some.line _ _ c.in_ok-push.ensures.items c.in-Some.ensures.says ∙ c.loop-left.invariant.1)
 
 pub returns : goal.returns
 returns c =
