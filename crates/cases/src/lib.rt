@@ -1,3 +1,5 @@
 // Runs of calls on the simulated host, as examples.
+#![tactic(auto)]
+
 #[cfg(test)]
 mod tests;
