@@ -1,5 +1,5 @@
 -- How a run goes on, call by call.
-use Rattle.std.proofs.Common.{◌≡◌, ℕ, suc, ◌+◌, ◌-◌, ◌%◌, ◌^◌, ◌<◌, ◌≤◌, List, [], ◌∷◌, ◌++◌, length, get_or, take, drop, set, Ok, Result, sym, refl, ap, ◌∙◌, subst, append_assoc, arith, length-append, length-take}
+use Rattle.std.proofs.Common.{◌≡◌, ℕ, suc, ◌+◌, ◌-◌, ◌%◌, ◌^◌, ◌<◌, ◌≤◌, List, [], ◌∷◌, ◌++◌, length, get_or, take, drop, set, Ok, Result, sym, refl, ap, ◌∙◌, subst, append_assoc, arith, length-take}
 use Rattle.std.proofs.lemmas.List.{take_more, drop_more, take_all, set-append_right}
 use Rattle.host.specs.Calls.{HostCall, HostReply, TerminalCall, TerminalReply}
 use Rattle.host.specs.Books.{HostBook, TerminalBook}
@@ -9,7 +9,7 @@ use Rattle.drive.specs.declared.calls.Call.{Call}
 use Rattle.drive.specs.declared.calls.Call.TheVariants.{Start, Stop, ToWait, Step, Look, Collect}
 use Rattle.drive.specs.declared.calls.Done.{Done}
 use Rattle.drive.specs.declared.calls.Tally.{Tally}
-use Rattle.drive.specs.Calls.{Makes, Quiet, tree_of, step_done}
+use Rattle.drive.specs.Calls.{Makes, Quiet, tree_of}
 use Rattle.drive.specs.Runs.{Turn, Linked, answers_of, tried_in, ordered_in, Ran}
 use Rattle.drive.proofs.Steps.{step_few, step-spawns}
 

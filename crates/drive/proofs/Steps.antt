@@ -1,5 +1,5 @@
 -- What a step of a run did.
-use Rattle.std.proofs.Common.{◌≡◌, ℕ, ◌+◌, ◌%◌, ◌^◌, ◌≤◌, Bool, true, false, List, ◌++◌, length, take, drop, IfOk, Ok, Err, Result, ap, ◌∙◌, arith, length-append}
+use Rattle.std.proofs.Common.{◌≡◌, ℕ, ◌+◌, ◌%◌, ◌^◌, ◌≤◌, Bool, true, false, List, length, take, drop, IfOk, Ok, Err, Result, ap, ◌∙◌, arith, length-append}
 use Rattle.std.proofs.lemmas.List.{take_at}
 use Rattle.host.specs.declared.journal.Record.{Record}
 use Rattle.host.specs.Calls.{HostCall, HostReply, TerminalCall, TerminalReply}

@@ -1,5 +1,5 @@
 -- A run: calls made one after the other.
-use Rattle.std.specs.Prelude.{◌≡◌, ℕ, ◌+◌, ◌%◌, ◌^◌, ◌<◌, ◌≤◌, List, [], ◌∷◌, ◌++◌, map, length, drop, Ok, Err, Result}
+use Rattle.std.specs.Prelude.{◌≡◌, ℕ, ◌+◌, ◌%◌, ◌^◌, ◌<◌, ◌≤◌, List, [], ◌∷◌, ◌++◌, length, drop, Ok, Err, Result}
 use Rattle.host.specs.Calls.{HostCall, HostReply, TerminalCall, TerminalReply}
 use Rattle.host.specs.Books.{HostBook, TerminalBook}
 use Rattle.supervisor.specs.declared.errors.Refusal.{Refusal}

@@ -4,7 +4,7 @@ ghost use Rattle.std.proofs.Common.{sym, subst, rules};
 ghost use Rattle.foreground.specs.Absent.{answer, book_of, counted, fresh};
 ghost use Rattle.host.specs.Calls.{TerminalReply};
 ghost use Rattle.host.specs.Books.{TerminalBook, TerminalKeeps};
-ghost use Rattle.foreground.specs.AbsentTerminalTerminalLemmas.{answered};
+ghost use Rattle.foreground.specs.Book.{answered};
 
 use host::terminal::Terminal;
 

@@ -1,5 +1,5 @@
 -- The options of a spawn and the number that a set of them is written as.
-use Rattle.std.specs.Prelude.{ℕ, ◌+◌, ◌/◌, ◌%◌, Bool, true, false, cond, Some, None, Option, ◌==◌, nat_le}
+use Rattle.std.specs.Prelude.{ℕ, ◌+◌, ◌/◌, ◌%◌, Bool, cond, Some, None, Option, ◌==◌, nat_le}
 use Rattle.host.specs.declared.command.SpawnOptions.{SpawnOptions}
 
 -- a mark that is set counts its number

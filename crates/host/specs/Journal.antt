@@ -1,6 +1,5 @@
 -- The journal: the record of a call, and the numbers that records are written with.
 use Rattle.std.specs.Prelude.{ℕ, ◌+◌, List, map, ℤ, pos, neg_ℤ, Some, None, Ok, Err, Option, Result}
-use Rattle.host.specs.declared.command.SpawnOptions.{SpawnOptions}
 use Rattle.host.specs.declared.state.ProcessEnd.{ProcessEnd}
 use Rattle.host.specs.declared.state.ProcessEnd.TheVariants.{Exited, Signalled, Continued}
 use Rattle.host.specs.declared.journal.CallKind.{CallKind}

@@ -1,6 +1,6 @@
 -- The questions that a command's state answers, and what is kept of a run when the state is reset.
 use Rattle.std.specs.Prelude.{ℕ, Bool, true, false}
-use Rattle.host.specs.declared.state.ProcessEnd.TheVariants.{Exited, Signalled, Continued}
+use Rattle.host.specs.declared.state.ProcessEnd.TheVariants.{Continued}
 use Rattle.host.specs.declared.state.CommandState.{CommandState}
 use Rattle.host.specs.declared.state.CommandState.TheVariants.{Pending, Running, Finished}
 

@@ -1,7 +1,7 @@
 -- A list of which the part from i up to n was rotated by one, so that the element at i is the last of the part.
-use Rattle.std.proofs.Common.{◌≡◌, ℕ, suc, ◌+◌, ◌-◌, ◌<◌, ◌≤◌, List, ◌++◌, length, take, drop, sym, ap, ◌∙◌, subst, append_assoc, add-one, arith, length-append, length-drop, length-take}
+use Rattle.std.proofs.Common.{◌≡◌, ℕ, suc, ◌-◌, ◌<◌, ◌≤◌, List, ◌++◌, length, take, drop, sym, ap, ◌∙◌, subst, append_assoc, add-one, arith, length-append, length-drop, length-take}
 use borrow.Rule.Slice.PartMut.{put_mid, mid_of, same_len_mid, mid_len}
-use Rattle.std.specs.List.{remove, AllByRecursion as All}
+use Rattle.std.specs.List.{remove, AllByRecursion}
 use Rattle.std.proofs.ByRecursion.{All-append, All-take, All-drop}
 use Rattle.std.proofs.lemmas.List.{take-take, take_at, drop-drop}
 use Rattle.std.proofs.lemmas.Slice.{between_is, take-put_mid}
@@ -20,10 +20,10 @@ module _ {X : Type 0} (xs : List X) (i n : ℕ) where
   pub length_rotated : (ys : List X) → ys ≡ turned → length (put_mid i (n - i) xs ys) ≡ length xs
   length_rotated ys e = same_len_mid i (n - i) xs ys (ap length e ∙ length-turned)
 
-  pub all_rotated : (P : X → Type 0) (ys : List X) → ys ≡ turned → All P xs → All P (put_mid i (n - i) xs ys)
+  pub all_rotated : (P : X → Type 0) (ys : List X) → ys ≡ turned → AllByRecursion P xs → AllByRecursion P (put_mid i (n - i) xs ys)
   all_rotated P ys e h =
-      let m : All P part = All-take P (n - i) (drop i xs) (All-drop P i xs h) in
-      let t : All P ys = subst (All P) (sym e) (All-append P (drop 1 part) (take 1 part) (All-drop P 1 part m) (All-take P 1 part m)) in
+      let m : AllByRecursion P part = All-take P (n - i) (drop i xs) (All-drop P i xs h) in
+      let t : AllByRecursion P ys = subst (AllByRecursion P) (sym e) (All-append P (drop 1 part) (take 1 part) (All-drop P 1 part m) (All-take P 1 part m)) in
       All-append P (take i xs) _ (All-take P i xs h) (All-append P ys _ t (All-drop P (n - i) (drop i xs) (All-drop P i xs h)))
 
   -- short of its last, the list up to n is without the element at i

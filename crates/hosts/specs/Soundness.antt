@@ -1,7 +1,7 @@
 -- Sound children stay sound.
 use Rattle.std.specs.Prelude.{◌≡◌, ℕ, ◌+◌, ◌<◌, true, List, length, Decides, slice_index_or, slice_set, refl}
 use Rattle.std.proofs.Common.{arith}
-use Rattle.std.specs.List.{AllByRecursion as All}
+use Rattle.std.specs.List.{AllByRecursion}
 use Rattle.std.proofs.ByRecursion.{All-get_or, All-set, All-weaker, Decides-by_and}
 use Rattle.std.proofs.lemmas.Bool.Decides.{nat_tests}
 use Rattle.hosts.specs.declared.children.Child.{Child}
@@ -12,7 +12,7 @@ use Rattle.hosts.specs.Roster.{no_child}
 abbrev pub Sound : ℕ → Child → Type 0
 Sound next c = is_sound next c ≡ true
 
-pub decides_sound : (next : ℕ) (cs : List Child) → Decides (all_sound next cs) (All (Sound next) cs)
+pub decides_sound : (next : ℕ) (cs : List Child) → Decides (all_sound next cs) (AllByRecursion (Sound next) cs)
 decides_sound next cs = Decides-by_and (is_sound next) (Sound next) (all_sound next) (λ c. (λ e. e, λ e. e)) refl (λ _ _. refl) cs
 
 pub sound_at : (next : ℕ) (cs : List Child) (i : ℕ) → i < length cs → all_sound next cs ≡ true → Sound next (slice_index_or cs i no_child)

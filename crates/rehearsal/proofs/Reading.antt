@@ -3,7 +3,7 @@ use Rattle.std.proofs.Common.{◌≡◌, ℕ, ◌+◌, ◌<◌, true, false, con
 use Rattle.rehearsal.specs.declared.line.Line.{Line}
 use Rattle.rehearsal.specs.Lines.{lettered, line_of}
 use Rattle.rehearsal.specs.Parts.{before, behind}
-use Rattle.rehearsal.specs.Script.{with_line, at_end, lines_from}
+use Rattle.rehearsal.specs.Script.{with_line, lines_from}
 
 -- lines that were read, before what is still to read
 abbrev pub after_lines : List Line → Result (List Line) ℕ → Result (List Line) ℕ

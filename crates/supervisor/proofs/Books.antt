@@ -1,5 +1,5 @@
 -- The books of a host and a terminal that keep them move along every trace.
-use Rattle.std.proofs.Common.{◌≡◌, ℕ, List, [], ◌∷◌, sym, refl, ap, ◌∙◌}
+use Rattle.std.proofs.Common.{◌≡◌, ℕ, List, sym, ap, ◌∙◌}
 use Rattle.host.specs.Calls.{HostCall, HostReply, TerminalCall, TerminalReply, Call, to_host, to_terminal, Reply, Event}
 use Rattle.host.specs.Interaction.{Interaction, done, ask, Traces, World, Answered}
 use Rattle.host.specs.Books.{HostBook, HostKeeps, host_moved, host_along, TerminalBook, TerminalKeeps, terminal_moved, terminal_along}

@@ -1,9 +1,9 @@
 -- What holds of every job, for its public calls.
-use Rattle.std.proofs.Common.{◌≡◌, ℕ, ◌+◌, ◌^◌, ◌≤◌, Bool, true, false, cond, ◌&&◌, ltb, leb, [], Some, None, Ok, Err, Option, sym, refl, subst, arith}
+use Rattle.std.proofs.Common.{◌≡◌, ℕ, ◌+◌, ◌^◌, ◌≤◌, Bool, true, false, cond, ◌&&◌, ltb, leb, [], Some, None, Ok, refl, arith}
 use Rattle.std.proofs.lemmas.Bool.{leb-true}
 use Rattle.tickets.specs.declared.flag.Mark.{Mark}
 use Rattle.tickets.specs.declared.flag.Mark.TheVariants.{Free, Unheld, Held, Raised}
-use Rattle.tickets.specs.Tickets.{is_raised, found, free_places}
+use Rattle.tickets.specs.Tickets.{is_raised, free_places}
 use Rattle.supervisor.specs.declared.errors.Refusal.{Refusal}
 use Rattle.supervisor.specs.declared.errors.Refusal.TheVariants.{Closed, Sheet, Clock, Queue, Tickets}
 use Rattle.supervisor.specs.declared.priority.Priority.{Priority}

@@ -1,9 +1,9 @@
 -- The mailbox stays in order: sending, taking, raising and collecting keep its tickets in balance.
-use Rattle.std.proofs.Common.{◌≡◌, ℕ, ◌+◌, ◌<◌, ◌≤◌, Bool, true, false, cond, eqb, leb, List, [], ◌∷◌, ◌++◌, length, sym, refl, ap, ◌∙◌, subst, arith}
+use Rattle.std.proofs.Common.{◌≡◌, ℕ, ◌+◌, ◌<◌, ◌≤◌, Bool, true, false, cond, eqb, List, [], ◌∷◌, ◌++◌, length, refl, ap, ◌∙◌, arith}
 use Rattle.std.proofs.lemmas.Bool.{eqb-true, ne_eqb, cond-false}
 use Rattle.tickets.specs.declared.flag.Mark.{Mark}
-use Rattle.tickets.specs.Tickets.{Table, is_free, is_waiting, is_raised, is_taken, raise, raise_each, put, new_mark, found, vacate, free_places}
-use Rattle.tickets.specs.Weights.{weight, weigh, one_at, each}
+use Rattle.tickets.specs.Tickets.{is_waiting, is_raised, is_taken, raise_each, put, new_mark, found, vacate, free_places}
+use Rattle.tickets.specs.Weights.{weight, one_at, each}
 use Rattle.tickets.proofs.Tables.{weigh-append, weigh-each, one_at-same, raise_waiting, raise-taken, put-weight, vacate_waiting, vacate-taken, waiting_few, change-length}
 use Rattle.task.specs.declared.messages.Control.{Control}
 use Rattle.task.specs.declared.messages.ControlMessage.{ControlMessage}
@@ -14,7 +14,7 @@ use Rattle.task.specs.declared.task.Outcome.TheVariants.{Settled, Ended, Joined}
 use Rattle.task.specs.declared.task.PollOutcome.{PollOutcome}
 use Rattle.task.specs.declared.task.PollOutcome.TheVariants.{Idle, Faulted, Over}
 use Rattle.supervisor.specs.Mailbox.{QueuesView, MailboxView, with_queues, with_table, message, enqueued, admitted, Taken, nothing, from_queue, take_normal, take_high, take_urgent, take, raised, endings_raised, settle, after_poll}
-use Rattle.supervisor.specs.Sound.{weigh_messages, weigh_queues, weigh_waiting, Balanced, Once, Later}
+use Rattle.supervisor.specs.Sound.{weigh_messages, weigh_queues, Balanced, Once, Later}
 
 -- The mailbox is in order, while the tickets `hand` are in hand.
 pub record InOrder (hand : List ℕ) (m : MailboxView) : Type 0 where

@@ -1,5 +1,5 @@
 -- The mailbox of a job: how messages are sent and taken, and what becomes of tickets.
-use Rattle.std.specs.Prelude.{ℕ, ◌+◌, Bool, true, false, cond, List, [], ◌∷◌, ◌++◌, length, replicate, Some, None, Option, nat_lt}
+use Rattle.std.specs.Prelude.{ℕ, ◌+◌, Bool, cond, List, [], ◌∷◌, ◌++◌, length, replicate, Some, None, Option, nat_lt}
 use Rattle.tickets.specs.Tickets.{Table, free_entry, raise, raise_each, put, new_mark, ticket_room, vacate}
 use Rattle.supervisor.specs.declared.errors.Refusal.{Refusal}
 use Rattle.supervisor.specs.declared.errors.Refusal.TheVariants.{Queue, Tickets}

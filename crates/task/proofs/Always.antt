@@ -1,5 +1,5 @@
 -- What holds at the end of an interaction tree, whatever is answered.
-use Rattle.std.proofs.Common.{◌≡◌, List, sym, subst}
+use Rattle.std.proofs.Common.{List, sym, subst}
 use Rattle.host.specs.Calls.{Call, Reply, Event}
 use Rattle.host.specs.Interaction.{Interaction, done, ask, bind, Traces}
 

@@ -7,8 +7,6 @@ use Rattle.host.specs.State.{is_running}
 use Rattle.host.specs.Interaction.{Interaction, done, bind}
 use Rattle.task.specs.declared.messages.Control.{Control}
 use Rattle.task.specs.declared.messages.Control.TheVariants.{Start, Stop, NextEnding}
-use Rattle.task.specs.declared.task.Outcome.{Outcome}
-use Rattle.task.specs.declared.task.Outcome.TheVariants.{Settled}
 use Rattle.task.specs.declared.task.PollOutcome.{PollOutcome}
 use Rattle.task.specs.declared.task.PollOutcome.TheVariants.{Faulted}
 use Rattle.task.specs.Task as Tree

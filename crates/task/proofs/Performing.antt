@@ -3,7 +3,7 @@ use Rattle.std.proofs.Common.{◌≡◌, ℕ, ◌+◌, ◌≤◌, [], refl, ◌�
 use Rattle.host.specs.Calls.{HostCall, HostReply, TerminalCall, TerminalReply, Call, Reply}
 use Rattle.host.specs.Interaction.{Interaction, done, bind, call}
 use Rattle.task.specs.declared.outside.Outside.{Outside}
-use Rattle.task.specs.Place.{Place, Asked, Ran}
+use Rattle.task.specs.Place.{Asked}
 use Rattle.task.specs.Performs.{Performs, place}
 use Rattle.task.proofs.Running as Running
 

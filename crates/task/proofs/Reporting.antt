@@ -1,5 +1,5 @@
 -- A part whose fault is told.
-use Rattle.std.proofs.Common.{◌≡◌, ℕ, ◌+◌, Result}
+use Rattle.std.proofs.Common.{ℕ, ◌+◌, Result}
 use Rattle.host.specs.Calls.{HostCall, HostReply, TerminalCall, TerminalReply}
 use Rattle.task.specs.declared.outside.Outside.{Outside}
 use Rattle.task.specs.Performs.{Performs}

@@ -1,5 +1,5 @@
 -- How runs of interaction trees are put together.
-use Rattle.std.proofs.Common.{◌≡◌, ℕ, List, [], ◌∷◌, ◌++◌, sym, refl, ap, subst}
+use Rattle.std.proofs.Common.{List, [], ◌∷◌, ◌++◌, sym, refl, ap, subst}
 use Rattle.host.specs.Calls.{HostCall, HostReply, TerminalCall, TerminalReply, Call, Reply, Event}
 use Rattle.host.specs.Interaction.{Interaction, done, ask, bind, call, Traces}
 use Rattle.task.specs.Place.{Place, Asked, Ran}

@@ -1,6 +1,5 @@
 -- How many starts a control and a poll try: at most one, whatever is answered.
-use Rattle.std.proofs.Common.{◌≡◌, ℕ, ◌+◌, ◌≤◌, Bool, true, false, List, Some, None, Ok, Err, Option, Result, ap, arith}
-use Rattle.host.specs.declared.command.SpawnOptions.{SpawnOptions}
+use Rattle.std.proofs.Common.{ℕ, ◌+◌, ◌≤◌, Bool, true, false, List, Some, None, Ok, Err, Option, Result, ap, arith}
 use Rattle.host.specs.declared.state.ProcessEnd.{ProcessEnd}
 use Rattle.host.specs.declared.state.CommandState.{CommandState}
 use Rattle.host.specs.declared.state.CommandState.TheVariants.{Pending, Running, Finished}

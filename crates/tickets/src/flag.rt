@@ -222,7 +222,8 @@ mod tests {
         assert_eq!(rt; tickets.issue(true), None);
         tickets.vacate(7);
         assert_eq!(rt; tickets.issue(true), Some(257));
-        assert_eq!(rt; tickets.entries[6].serial, 257);
+        let serial = tickets.entries[6].serial;
+        assert_eq!(rt; serial, 257);
     }
 
     #[test]
@@ -251,7 +252,8 @@ mod tests {
         tickets.raise(1);
         assert_eq!(rt; tickets.mark(1), Mark::Free);
         assert!(rt; tickets.fits(256));
-        assert_eq!(rt; tickets.entries[0].serial, 0);
+        let serial = tickets.entries[0].serial;
+        assert_eq!(rt; serial, 0);
     }
 
     #[test]

@@ -1,4 +1,4 @@
-use Rattle.std.proofs.Common.{◌≡◌, false, eqb, refl, rules}
+use Rattle.std.proofs.Common.{◌≡◌, false, eqb, rules}
 use Rattle.rehearsal.proofs.line.read_fields.Goals as goal
 
 pub returns-in_default : goal.returns-in_default

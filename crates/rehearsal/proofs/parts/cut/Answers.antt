@@ -1,4 +1,4 @@
-use Rattle.std.proofs.Common.{◌≡◌, suc, ◌+◌, ◌<◌, ◌≤◌, length, take, drop, Some, None, sym, ap, ◌∙◌, add-one, arith, rules}
+use Rattle.std.proofs.Common.{suc, ◌+◌, ◌≤◌, length, take, drop, Some, sym, ap, ◌∙◌, add-one, arith, rules}
 use native.Mathlib.Nat.{sub-zero}
 use Rattle.std.proofs.lemmas.List.{take_rest, take_all}
 use Rattle.rehearsal.specs.Parts.{before}

@@ -1,4 +1,4 @@
-use Rattle.std.proofs.Common.{◌≡◌, eqb, Some, None, sym, ap, ◌∙◌, rules}
+use Rattle.std.proofs.Common.{eqb, Some, None, sym, ap, ◌∙◌, rules}
 use Rattle.std.specs.Option.{option_map}
 use Rattle.rehearsal.specs.Lines.{lettered, line_of}
 use Rattle.rehearsal.proofs.Reading.{first_line, last_unended}

@@ -1,4 +1,4 @@
-use Rattle.std.proofs.Common.{◌≡◌, ◌+◌, ◌-◌, ◌*◌, ◌<◌, ◌⊎◌, get_or, drop, sym, ◌∙◌, inl, inr, arith}
+use Rattle.std.proofs.Common.{◌+◌, ◌-◌, ◌*◌, ◌<◌, ◌⊎◌, get_or, drop, sym, ◌∙◌, inl, inr, arith}
 use Rattle.rehearsal.proofs.Digits.{too_large, on_digit, no_digit, at_end}
 use Rattle.rehearsal.proofs.token.digits.Goals as goal
 use Rattle.rehearsal.proofs.token.digits.Goals.{then-b-lt48-via-then-b-lt48, then-b-lt48-via-else-b-lt48+then-b-gt57}

@@ -1,4 +1,4 @@
-use Rattle.std.proofs.Common.{◌≡◌, ◌+◌, ◌<◌, ◌≤◌, length, get_or, take, set, arith, rules}
+use Rattle.std.proofs.Common.{◌≡◌, ◌<◌, length, get_or, arith, rules}
 use Rattle.ring.proofs.Items.{length-items}
 use Rattle.ring.proofs.slots.in_order.Goals as goal
 use Rattle.ring.specs.Ring.{items}

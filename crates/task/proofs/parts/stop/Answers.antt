@@ -1,6 +1,5 @@
 use Rattle.task.specs.Task as Tree
 use Rattle.task.specs.View.{task_view}
-use Rattle.host.specs.Interaction.{call}
 use Rattle.task.proofs.Performing.{and_then}
 use Rattle.task.proofs.parts.stop.Goals as goal
 

@@ -1,3 +1,4 @@
+-- The book of the absent terminal keeps its rules.
 use Rattle.std.specs.Prelude.{refl}
 use Rattle.std.proofs.Common.{arith}
 use Rattle.host.specs.Calls.{TerminalCall, owner, acquire, release}
