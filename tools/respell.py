@@ -3,7 +3,7 @@
 
 usage: python3 tools/respell.py            at the top of a checkout whose files /opt/rattle/port/port.py has turned
 
-A name is turned where it stands alone, in sources, definitions, proofs and must-fail edits; comments keep their words.
+A name is turned where it stands alone, in sources, definitions, proofs and must-fail edits; whole lines of comment keep their words.
 """
 
 import os

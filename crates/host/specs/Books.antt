@@ -24,7 +24,7 @@ abbrev pub strike : ℕ → List ℕ → List ℕ
 strike n [] = []
 strike n (x ∷ xs) = cond (n == x) xs (x ∷ strike n xs)
 
--- a spawn that is answered a child adds it; an end and a let_go strike the child off; a fault leaves the roster
+-- a spawn that is answered a child adds it; an end and a let-go strike the child off; a fault leaves the roster
 abbrev pub roster_after : List ℕ → (c : HostCall) → HostReply c → List ℕ
 roster_after r (spawn program options way time) (Ok child) = r ++ child ∷ []
 roster_after r (spawn program options way time) (Err code) = r

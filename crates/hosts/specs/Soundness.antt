@@ -1,12 +1,9 @@
--- Sound children stay sound.
-use Rattle.std.specs.Prelude.{◌≡◌, ℕ, ◌+◌, ◌<◌, true, List, length, Decides, slice_index_or, slice_set, refl}
-use Rattle.std.proofs.Common.{arith}
+-- Sound children, by a test and as a fact.
+use Rattle.std.specs.Prelude.{◌≡◌, ℕ, true, List, Decides, refl}
 use Rattle.std.specs.List.{AllByRecursion}
-use Rattle.std.proofs.ByRecursion.{All-get_or, All-set, All-weaker, Decides-by_and}
-use Rattle.std.proofs.lemmas.Bool.Decides.{nat_tests}
+use Rattle.std.proofs.ByRecursion.{Decides-by_and}
 use Rattle.hosts.specs.declared.children.Child.{Child}
 use Rattle.hosts.specs.Children.{is_sound, all_sound}
-use Rattle.hosts.specs.Roster.{no_child}
 
 -- a sound child
 abbrev pub Sound : ℕ → Child → Type 0
@@ -14,12 +11,3 @@ Sound next c = is_sound next c ≡ true
 
 pub decides_sound : (next : ℕ) (cs : List Child) → Decides (all_sound next cs) (AllByRecursion (Sound next) cs)
 decides_sound next cs = Decides-by_and (is_sound next) (Sound next) (all_sound next) (λ c. (λ e. e, λ e. e)) refl (λ _ _. refl) cs
-
-pub sound_at : (next : ℕ) (cs : List Child) (i : ℕ) → i < length cs → all_sound next cs ≡ true → Sound next (slice_index_or cs i no_child)
-sound_at next cs i l h = All-get_or (Sound next) cs i no_child l ((decides_sound next cs).0 h)
-
-pub sound_set : (next : ℕ) (cs : List Child) (i : ℕ) (c : Child) → Sound next c → all_sound next cs ≡ true → all_sound next (slice_set cs i c) ≡ true
-sound_set next cs i c s h = (decides_sound next (slice_set cs i c)).1 (All-set (Sound next) cs i c s ((decides_sound next cs).0 h))
-
-pub sound_later : (next : ℕ) (cs : List Child) → all_sound next cs ≡ true → all_sound (next + 1) cs ≡ true
-sound_later next cs h = (decides_sound (next + 1) cs).1 (All-weaker (Sound next) (Sound (next + 1)) (λ c s. grind (arith, nat_tests)) cs ((decides_sound next cs).0 h))

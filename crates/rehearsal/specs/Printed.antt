@@ -1,6 +1,5 @@
 -- The text that is printed: lines of fields with tabs (byte 9) between them, ended by line feeds (byte 10).
-use Rattle.std.specs.Prelude.{◌≡◌, ℕ, List, [], ◌∷◌, ◌++◌, take, Ok, Err, decimal, Result}
-use Rattle.std.proofs.Math.Utf8.{encode}
+use Rattle.std.specs.Prelude.{◌≡◌, ℕ, List, [], ◌∷◌, ◌++◌, take, Ok, Err, decimal, encode_utf8, Result}
 use Rattle.std.specs.Fmt.{signed_decimal}
 use Rattle.host.specs.declared.journal.Record.{Record}
 use Rattle.host.specs.Journal.{call_number, answer_number}
@@ -16,7 +15,7 @@ faulty_text refusal number = decimal refusal ++ (9 ∷ (decimal number ++ (10 �
 -- the number of a line, its letter, refusal and value
 abbrev pub answer_text : ℕ → ℕ → ℕ → ℕ → List ℕ
 answer_text number letter refusal value =
-    decimal number ++ (9 ∷ (encode letter ++ (9 ∷ (decimal refusal ++ (9 ∷ (decimal value ++ (10 ∷ [])))))))
+    decimal number ++ (9 ∷ (encode_utf8 letter ++ (9 ∷ (decimal refusal ++ (9 ∷ (decimal value ++ (10 ∷ [])))))))
 
 -- the letter j, and call, child, number and answer of a record
 abbrev pub record_text : Record → List ℕ

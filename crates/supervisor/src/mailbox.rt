@@ -88,7 +88,7 @@ impl Mailbox {
     pub(crate) fn admit(&mut self, priority: Priority, control: Control, held: bool) -> u32
         requires { Mail.send_refusal priority (mailbox_view self.old) ≡ None }
         ensures ticket { result ≡ (mailbox_view self.old).issued + 1 }
-        ensures after { mailbox_view self.new ≡ Mail.admitted priority control «held» (mailbox_view self.old) }
+        ensures after { mailbox_view self.new ≡ Mail.admitted priority control held (mailbox_view self.old) }
     {
         let ticket = self.tickets.issue(held).unwrap();
         self.queues

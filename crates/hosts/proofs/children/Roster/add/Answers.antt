@@ -4,7 +4,7 @@ use Rattle.std.proofs.lemmas.Bool.{and_from, cond-true, lt-ltb}
 use Rattle.hosts.specs.declared.children.Life.TheVariants.{Going}
 use Rattle.hosts.specs.Children.{child, has_room}
 use Rattle.hosts.specs.Roster.{items}
-use Rattle.hosts.specs.Soundness.{sound_set, sound_later}
+use Rattle.hosts.proofs.Soundness.{sound_set, sound_later}
 use Rattle.hosts.proofs.children.Roster.add.Goals as goal
 
 pub invariant_of-self : goal.invariant_of-self

@@ -2,7 +2,7 @@ use Rattle.std.proofs.Common.{◌<◌, length, Some, sym, refl, ap, ◌∙◌, a
 use Rattle.std.proofs.lemmas.Bool.{and_parts}
 use Rattle.hosts.specs.declared.children.Child.{Child}
 use Rattle.hosts.proofs.Places.{entry_at, life_at, life_off}
-use Rattle.hosts.specs.Soundness.{sound_at}
+use Rattle.hosts.proofs.Soundness.{sound_at}
 use Rattle.hosts.proofs.children.Roster.life.Goals as goal
 
 pub returns-in-Some : goal.returns-in-Some

@@ -4,7 +4,8 @@ use Rattle.std.proofs.lemmas.Bool.{and_from, and_parts}
 use Rattle.hosts.specs.declared.children.Child.{Child}
 use Rattle.hosts.specs.Children.{child}
 use Rattle.hosts.proofs.Places.{entry_at, with_life-at, with_life-off}
-use Rattle.hosts.specs.Soundness.{Sound, sound_at, sound_set}
+use Rattle.hosts.specs.Soundness.{Sound}
+use Rattle.hosts.proofs.Soundness.{sound_at, sound_set}
 use Rattle.hosts.proofs.children.Roster.put.Goals as goal
 
 pub invariant_of-self : goal.invariant_of-self
