@@ -1,5 +1,5 @@
 // The children of the simulated host. What is done to them is elsewhere: contracts there cite definitions that name `Roster`,
-// which this file cannot import.
+// which this file could import only within an `impl`.
 ghost use Rattle.std.specs.Prelude.{◌≡◌, ◌^◌, ◌≤◌, true, length};
 ghost use Rattle.hosts.specs.Children.{all_sound};
 
