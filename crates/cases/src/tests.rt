@@ -3,46 +3,14 @@ use drive::calls::{Call, Step, Tally};
 use drive::runs::drive;
 use foreground::absent::AbsentTerminal;
 use host::command::SpawnOptions;
-use host::journal::{Answer, CallKind, Record};
+use host::journal::Record;
 use hosts::simulated::SimulatedHost;
 use std::test::Fail;
 use supervisor::errors::Refusal;
 use supervisor::job::Job;
 
-const NO_OPTIONS: SpawnOptions = SpawnOptions {
-    grouped: false,
-    session: false,
-    reset_sigmask: false,
-    grant_foreground: false,
-};
-
-const BLANK: Record = Record {
-    call: CallKind::Release,
-    child: 0,
-    number: 0,
-    answer: Answer::Nothing,
-};
-
 fn fresh() -> Result<Job, Fail> {
-    match Job::new(1, 0) {
-        Ok(job) => Ok(job),
-        Err(_) => Err(Fail::new("no job")),
-    }
-}
-
-// The number of a refusal, or 1000 and the value.
-fn code(answer: Result<u32, Refusal>) -> u32 {
-    match answer {
-        Ok(value) => value.saturating_add(1000),
-        Err(refusal) => u32::from(refusal.number()),
-    }
-}
-
-fn counts(tally: Result<Tally, Refusal>) -> (usize, usize) {
-    match tally {
-        Ok(tally) => (tally.tried, tally.ordered),
-        Err(_) => (usize::MAX, 0),
-    }
+    Job::new(1, 0).map_err(|_| Fail::new("no job"))
 }
 
 fn at(step: Step, time: u64) -> Call {
@@ -52,9 +20,9 @@ fn at(step: Step, time: u64) -> Call {
 #[test]
 fn a_run_answers_each_call_and_counts(rt: HostRuntime) -> Result<(), Fail> {
     let mut job = fresh()?;
-    let mut host = SimulatedHost::new(0, NO_OPTIONS);
+    let mut host = SimulatedHost::new(0, SpawnOptions::default());
     let mut terminal = AbsentTerminal::new();
-    let mut sheet = [BLANK; 8];
+    let mut sheet = [Record::BLANK; 8];
     let mut answers = [Err(Refusal::Line); 10];
     let calls = [
         Call::Start,
@@ -75,14 +43,25 @@ fn a_run_answers_each_call_and_counts(rt: HostRuntime) -> Result<(), Fail> {
         &mut sheet,
         &mut answers,
     );
-    assert_eq!(rt; counts(tally), (1, 2));
-    let mut codes = [0; 10];
-    for (i, answer) in answers.iter().enumerate() {
-        codes[i] = code(*answer);
-    }
+    let counts = Tally {
+        tried: 1,
+        ordered: 2,
+    };
+    assert_eq!(rt; tally, Ok(counts));
     assert_eq!(rt;
-        codes,
-        [1001, 1002, 1001, 1001, 1003, 1001, 1004, 1001, 1001, 13]
+        answers,
+        [
+            Ok(1),
+            Ok(2),
+            Ok(1),
+            Ok(1),
+            Ok(3),
+            Ok(1),
+            Ok(4),
+            Ok(1),
+            Ok(1),
+            Err(Refusal::Line)
+        ]
     );
     Ok(())
 }
@@ -90,9 +69,9 @@ fn a_run_answers_each_call_and_counts(rt: HostRuntime) -> Result<(), Fail> {
 #[test]
 fn too_few_answers_refuse_the_run(rt: HostRuntime) -> Result<(), Fail> {
     let mut job = fresh()?;
-    let mut host = SimulatedHost::new(0, NO_OPTIONS);
+    let mut host = SimulatedHost::new(0, SpawnOptions::default());
     let mut terminal = AbsentTerminal::new();
-    let mut sheet = [BLANK; 8];
+    let mut sheet = [Record::BLANK; 8];
     let mut answers = [Err(Refusal::Line); 1];
     let tally = drive(
         &mut job,
@@ -102,18 +81,18 @@ fn too_few_answers_refuse_the_run(rt: HostRuntime) -> Result<(), Fail> {
         &mut sheet,
         &mut answers,
     );
-    assert_eq!(rt; counts(tally), (usize::MAX, 0));
-    assert_eq!(rt; code(answers[0]), 13);
-    assert_eq!(rt; code(job.start()), 1001);
+    assert_eq!(rt; tally, Err(Refusal::Sheet));
+    assert_eq!(rt; answers, [Err(Refusal::Line)]);
+    assert_eq!(rt; job.start(), Ok(1));
     Ok(())
 }
 
 #[test]
 fn a_short_sheet_refuses_each_step(rt: HostRuntime) -> Result<(), Fail> {
     let mut job = fresh()?;
-    let mut host = SimulatedHost::new(0, NO_OPTIONS);
+    let mut host = SimulatedHost::new(0, SpawnOptions::default());
     let mut terminal = AbsentTerminal::new();
-    let mut sheet = [BLANK; 7];
+    let mut sheet = [Record::BLANK; 7];
     let mut answers = [Err(Refusal::Line); 3];
     let calls = [Call::Start, at(Step::Control, 5), at(Step::Child, 5)];
     let tally = drive(
@@ -124,10 +103,11 @@ fn a_short_sheet_refuses_each_step(rt: HostRuntime) -> Result<(), Fail> {
         &mut sheet,
         &mut answers,
     );
-    assert_eq!(rt; counts(tally), (0, 0));
-    assert_eq!(rt;
-        (code(answers[0]), code(answers[1]), code(answers[2])),
-        (1001, 2, 2)
-    );
+    let counts = Tally {
+        tried: 0,
+        ordered: 0,
+    };
+    assert_eq!(rt; tally, Ok(counts));
+    assert_eq!(rt; answers, [Ok(1), Err(Refusal::Sheet), Err(Refusal::Sheet)]);
     Ok(())
 }

@@ -2,10 +2,11 @@
 use Rattle.std.proofs.Common.{◌≡◌, ℕ, ◌+◌, ◌%◌, ◌^◌, ◌≤◌, Bool, true, false, List, length, take, drop, IfOk, Ok, Err, Result, ap, ◌∙◌, arith, length-append}
 use Rattle.std.proofs.lemmas.List.{take_at}
 use Rattle.host.specs.declared.journal.Record.{Record}
-use Rattle.host.specs.Calls.{HostCall, HostReply, TerminalCall, TerminalReply}
+use Rattle.host.specs.declared.process.Host as Host
+use Rattle.host.specs.declared.terminal.Terminal as Terminal
 use Rattle.host.specs.Interaction.{Interaction}
 use Rattle.host.specs.Journal.{journal}
-use Rattle.host.specs.Books.{HostBook, host_along, spawns_in, TerminalBook}
+use Rattle.host.specs.Books.{HostBook, host_along, spawns_in}
 use Rattle.supervisor.specs.declared.answers.Stepped.{Stepped}
 use Rattle.supervisor.specs.declared.errors.Refusal.{Refusal}
 use Rattle.supervisor.specs.Job.{JobView, Stepping}
@@ -18,16 +19,16 @@ truth_few : (o : Bool) → truth o ≤ 1
 truth_few true = omega arith
 truth_few false = omega arith
 
-module _ {H T : Type 0} (hd : H → (c : HostCall) → HostReply c → H → Type 0) (td : T → (c : TerminalCall) → TerminalReply c → T → Type 0) (hb : H → HostBook) (tb : T → TerminalBook) (tree : ℕ → JobView → Interaction Stepping) (time : ℕ) (a b : Moment H T) where
+module _ {H T : Type 0} (by_host : Host.Ghosts H) (by_terminal : Terminal.Ghosts T) (tree : ℕ → JobView → Interaction Stepping) (time : ℕ) (a b : Moment H T) where
   -- a step's records stand on its sheet
-  pub records_fit : (r : Result Stepped Refusal) → Steps hd td hb tb tree time a r b → IfOk r (λ s. s.records ≤ length b.sheet)
+  pub records_fit : (r : Result Stepped Refusal) → Steps by_host by_terminal tree time a r b → IfOk r (λ s. s.records ≤ length b.sheet)
   records_fit (Ok s) h =
       let p = h.1.conducts.trace in
       omega (arith, h.1.conducts.count, ap length h.1.conducts.sheet, length-append (journal p) (drop (length p) a.sheet), journal-length p)
   records_fit (Err r) h = tt
 
   -- the starts that a step tried are the spawns of its trace
-  tried_is : (s : Stepped) (h : Steps hd td hb tb tree time a (Ok s) b) → spawn_records (take s.records b.sheet) ≡ spawns_in h.1.conducts.trace
+  tried_is : (s : Stepped) (h : Steps by_host by_terminal tree time a (Ok s) b) → spawn_records (take s.records b.sheet) ≡ spawns_in h.1.conducts.trace
   tried_is s h =
       let p = h.1.conducts.trace in
       ap (λ (n : ℕ). spawn_records (take n b.sheet)) h.1.conducts.count
@@ -36,15 +37,15 @@ module _ {H T : Type 0} (hd : H → (c : HostCall) → HostReply c → H → Typ
       ∙ journal-spawns p
 
   -- at most one of each
-  pub step_few : (r : Result Stepped Refusal) → Steps hd td hb tb tree time a r b → ((step_done r b.sheet).tried ≤ 1) × ((step_done r b.sheet).ordered ≤ 1)
+  pub step_few : (r : Result Stepped Refusal) → Steps by_host by_terminal tree time a r b → ((step_done r b.sheet).tried ≤ 1) × ((step_done r b.sheet).ordered ≤ 1)
   step_few (Ok s) h = (omega (arith, tried_is s h, h.1.starts), truth_few s.ordered)
   step_few (Err r) h = (omega arith, omega arith)
 
   -- and the host's count of spawns grew by the starts tried
-  pub step-spawns : (r : Result Stepped Refusal) → Steps hd td hb tb tree time a r b → (hb b.host).spawns % 2 ^ 64 ≡ ((hb a.host).spawns + (step_done r b.sheet).tried) % 2 ^ 64
+  pub step-spawns : (r : Result Stepped Refusal) → Steps by_host by_terminal tree time a r b → (by_host.book b.host).spawns % 2 ^ 64 ≡ ((by_host.book a.host).spawns + (step_done r b.sheet).tried) % 2 ^ 64
   step-spawns (Ok s) h =
-      let e : (hb b.host).spawns ≡ (host_along (hb a.host) h.1.conducts.trace).spawns = ap (λ (k : HostBook). k.spawns) h.1.host_book in
-      omega (arith, e, along_spawns (hb a.host) h.1.conducts.trace, tried_is s h)
+      let e : (by_host.book b.host).spawns ≡ (host_along (by_host.book a.host) h.1.conducts.trace).spawns = ap (λ (k : HostBook). k.spawns) h.1.host_book in
+      omega (arith, e, along_spawns (by_host.book a.host) h.1.conducts.trace, tried_is s h)
   step-spawns (Err r) h =
-      let e : (hb b.host).spawns ≡ (hb a.host).spawns = ap (λ (m : Moment H T). (hb m.host).spawns) h.1 in
+      let e : (by_host.book b.host).spawns ≡ (by_host.book a.host).spawns = ap (λ (m : Moment H T). (by_host.book m.host).spawns) h.1 in
       omega (arith, e)

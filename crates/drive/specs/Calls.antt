@@ -1,11 +1,11 @@
 -- What one call of a run does to a job, its host, its terminal and the sheet.
-use Rattle.std.specs.Prelude.{◌≡◌, ℕ, ◌+◌, Bool, true, false, List, [], ◌∷◌, take, Ok, Err, Result}
+use Rattle.std.specs.Prelude.{◌≡◌, ℕ, ◌+◌, Bool, true, false, List, [], ◌∷◌, take, Ok, Err, Result, ⊤}
 use Rattle.host.specs.declared.journal.CallKind.{CallKind}
 use Rattle.host.specs.declared.journal.CallKind.TheVariants.{Spawn, Poll, Wait, Kill, Signal, Cont, LetGo, Hook, Routine, Tell, Owner, Acquire, Release}
 use Rattle.host.specs.declared.journal.Record.{Record}
-use Rattle.host.specs.Calls.{HostCall, HostReply, TerminalCall, TerminalReply}
+use Rattle.host.specs.declared.process.Host as Host
+use Rattle.host.specs.declared.terminal.Terminal as Terminal
 use Rattle.host.specs.Interaction.{Interaction}
-use Rattle.host.specs.Books.{HostBook, TerminalBook}
 use Rattle.supervisor.specs.declared.errors.Refusal.{Refusal}
 use Rattle.supervisor.specs.declared.answers.Stepped.{Stepped}
 use Rattle.task.specs.declared.messages.Control.TheVariants as Controls
@@ -53,7 +53,7 @@ abbrev pub look_value : Result Bool Refusal → Result ℕ Refusal
 look_value (Ok b) = Ok (truth b)
 look_value (Err r) = Err r
 
-abbrev pub collect_value : Result (Unit {0}) Refusal → Result ℕ Refusal
+abbrev pub collect_value : Result ⊤ Refusal → Result ℕ Refusal
 collect_value (Ok u) = Ok 0
 collect_value (Err r) = Err r
 
@@ -68,7 +68,7 @@ abbrev pub tree_of : Kind.Step → ℕ → JobView → Interaction Stepping
 tree_of Control = control_step
 tree_of Child = child_step
 
-module _ {H T : Type 0} (hd : H → (c : HostCall) → HostReply c → H → Type 0) (td : T → (c : TerminalCall) → TerminalReply c → T → Type 0) (hb : H → HostBook) (tb : T → TerminalBook) where
+module _ {H T : Type 0} (by_host : Host.Ghosts H) (by_terminal : Terminal.Ghosts T) where
   -- a call that asks nothing outside: the job and the answer are those of f; where it is refused nothing changed
   pub record Quiet (f : JobView → JobView × Result ℕ Refusal) (a : Moment H T) (d : Done) (b : Moment H T) : Type 0 where
     pub result : (job_view b.job, d.answer) ≡ f (job_view a.job)
@@ -82,7 +82,7 @@ module _ {H T : Type 0} (hd : H → (c : HostCall) → HostReply c → H → Typ
   -- a step, by its own contract
   pub record Moved (tree : ℕ → JobView → Interaction Stepping) (time : ℕ) (a : Moment H T) (d : Done) (b : Moment H T) : Type 0 where
     pub answer : Result Stepped Refusal
-    pub step : Steps hd td hb tb tree time a answer b
+    pub step : Steps by_host by_terminal tree time a answer b
     pub does : d ≡ step_done answer b.sheet
 
   -- the call c leads from the moment a to the moment b and does d

@@ -1,7 +1,7 @@
 -- A run: calls made one after the other.
 use Rattle.std.specs.Prelude.{◌≡◌, ℕ, ◌+◌, ◌%◌, ◌^◌, ◌<◌, ◌≤◌, List, [], ◌∷◌, ◌++◌, length, drop, Ok, Err, Result}
-use Rattle.host.specs.Calls.{HostCall, HostReply, TerminalCall, TerminalReply}
-use Rattle.host.specs.Books.{HostBook, TerminalBook}
+use Rattle.host.specs.declared.process.Host as Host
+use Rattle.host.specs.declared.terminal.Terminal as Terminal
 use Rattle.supervisor.specs.declared.errors.Refusal.{Refusal}
 use Rattle.supervisor.specs.declared.errors.Refusal.TheVariants as Refusals
 use Rattle.supervisor.specs.Steps.{Moment}
@@ -36,15 +36,15 @@ ordered_in (t ∷ ts) = t.did.ordered + ordered_in ts
 -- The calls were made one after the other from the moment a to the moment b: their answers stand in order at the front of the
 -- slice of answers, which behind them is what it was; the tally adds up what they did; the host's count of spawns grew by exactly
 -- the starts tried.
-pub record Ran {H T : Type 0} (hd : H → (c : HostCall) → HostReply c → H → Type 0) (td : T → (c : TerminalCall) → TerminalReply c → T → Type 0) (hb : H → HostBook) (tb : T → TerminalBook) (calls : List Call) (a : Moment H T) (xs : List (Result ℕ Refusal)) (tally : Tally) (b : Moment H T) (ys : List (Result ℕ Refusal)) : Type 0 where
+pub record Ran {H T : Type 0} (by_host : Host.Ghosts H) (by_terminal : Terminal.Ghosts T) (calls : List Call) (a : Moment H T) (xs : List (Result ℕ Refusal)) (tally : Tally) (b : Moment H T) (ys : List (Result ℕ Refusal)) : Type 0 where
   pub turns : List (Turn (Moment H T))
-  pub linked : Linked (Makes hd td hb tb) calls a turns b
+  pub linked : Linked (Makes by_host by_terminal) calls a turns b
   pub answers : ys ≡ answers_of turns ++ drop (length calls) xs
   pub tried : tally.tried ≡ tried_in turns
   pub ordered : tally.ordered ≡ ordered_in turns
-  pub spawned : (hb b.host).spawns % 2 ^ 64 ≡ ((hb a.host).spawns + tally.tried) % 2 ^ 64
+  pub spawned : (by_host.book b.host).spawns % 2 ^ 64 ≡ ((by_host.book a.host).spawns + tally.tried) % 2 ^ 64
 
 -- a run is refused, and changes nothing, where there are fewer answers than calls
-abbrev pub Drives : {H T : Type 0} (hd : H → (c : HostCall) → HostReply c → H → Type 0) (td : T → (c : TerminalCall) → TerminalReply c → T → Type 0) (hb : H → HostBook) (tb : T → TerminalBook) → List Call → Moment H T → List (Result ℕ Refusal) → Result Tally Refusal → Moment H T → List (Result ℕ Refusal) → Type 0
-Drives hd td hb tb calls a xs (Err r) b ys = (length xs < length calls) × (r ≡ Refusals.Sheet) × (b ≡ a) × (ys ≡ xs)
-Drives hd td hb tb calls a xs (Ok tally) b ys = (length calls ≤ length xs) × Ran hd td hb tb calls a xs tally b ys
+abbrev pub Drives : {H T : Type 0} (by_host : Host.Ghosts H) (by_terminal : Terminal.Ghosts T) → List Call → Moment H T → List (Result ℕ Refusal) → Result Tally Refusal → Moment H T → List (Result ℕ Refusal) → Type 0
+Drives by_host by_terminal calls a xs (Err r) b ys = (length xs < length calls) × (r ≡ Refusals.Sheet) × (b ≡ a) × (ys ≡ xs)
+Drives by_host by_terminal calls a xs (Ok tally) b ys = (length calls ≤ length xs) × Ran by_host by_terminal calls a xs tally b ys

@@ -2,14 +2,14 @@
 use supervisor::errors::Refusal;
 
 // Which step is made.
-#[derive(Clone, Copy)]
+#[derive(Clone, Copy, Debug, PartialEq, Eq)]
 pub enum Step {
     Control,
     Child,
 }
 
 // A call on a job. A step has its time, a look and a collect their ticket.
-#[derive(Clone, Copy)]
+#[derive(Clone, Copy, Debug, PartialEq, Eq)]
 pub enum Call {
     Start,
     Stop,
@@ -21,7 +21,7 @@ pub enum Call {
 
 // What a call did: its answer (a ticket, the number of a step's progress, 1 for a look at a ticket that is done, else 0),
 // the starts that it tried, and the controls that order a start that it took from a queue.
-#[derive(Clone, Copy)]
+#[derive(Clone, Copy, Debug, PartialEq, Eq)]
 pub struct Done {
     pub answer: Result<u32, Refusal>,
     pub tried: usize,
@@ -29,7 +29,7 @@ pub struct Done {
 }
 
 // The starts tried in a run, and the controls that order a start that were taken from queues.
-#[derive(Clone, Copy)]
+#[derive(Clone, Copy, Debug, PartialEq, Eq)]
 pub struct Tally {
     pub tried: usize,
     pub ordered: usize,

@@ -72,7 +72,7 @@ fn stepped(answer: Result<Stepped, Refusal>, sheet: &[Record]) -> Done
     match answer {
         Err(refusal) => quiet(Err(refusal)),
         Ok(step) => Done {
-            answer: Ok(u32::from(step.progress.number())),
+            answer: Ok(u32::from(u8::from(step.progress))),
             tried: spawns_among(sheet, step.records),
             ordered: usize::from(step.ordered),
         },
@@ -88,7 +88,7 @@ fn step_once<H: Host, T: Terminal>(
     step: Step,
     time: u64,
 ) -> Result<Stepped, Refusal>
-    ensures { Steps H.Host.did T.Terminal.did H.Host.book T.Terminal.book (Calls.tree_of step) time (record { job = job.old; host = host.old; terminal = terminal.old; sheet = sheet.old }) result (record { job = job.new; host = host.new; terminal = terminal.new; sheet = sheet.new }) }
+    ensures { Steps H.Host T.Terminal (Calls.tree_of step) time (record { job = job.old; host = host.old; terminal = terminal.old; sheet = sheet.old }) result (record { job = job.new; host = host.new; terminal = terminal.new; sheet = sheet.new }) }
 {
     match step {
         Step::Control => job.control_step(host, terminal, sheet, time),
@@ -104,7 +104,7 @@ fn make<H: Host, T: Terminal>(
     sheet: &mut [Record],
     call: Call,
 ) -> Done
-    ensures { Calls.Makes H.Host.did T.Terminal.did H.Host.book T.Terminal.book call (record { job = job.old; host = host.old; terminal = terminal.old; sheet = sheet.old }) result (record { job = job.new; host = host.new; terminal = terminal.new; sheet = sheet.new }) }
+    ensures { Calls.Makes H.Host T.Terminal call (record { job = job.old; host = host.old; terminal = terminal.old; sheet = sheet.old }) result (record { job = job.new; host = host.new; terminal = terminal.new; sheet = sheet.new }) }
 {
     match call {
         Call::Start => quiet(job.start()),
@@ -128,7 +128,7 @@ pub fn drive<H: Host, T: Terminal>(
     sheet: &mut [Record],
     answers: &mut [Result<u32, Refusal>],
 ) -> Result<Tally, Refusal>
-    ensures { Runs.Drives H.Host.did T.Terminal.did H.Host.book T.Terminal.book calls.now (record { job = job.old; host = host.old; terminal = terminal.old; sheet = sheet.old }) answers.old result (record { job = job.new; host = host.new; terminal = terminal.new; sheet = sheet.new }) answers.new }
+    ensures { Runs.Drives H.Host T.Terminal calls.now (record { job = job.old; host = host.old; terminal = terminal.old; sheet = sheet.old }) answers.old result (record { job = job.new; host = host.new; terminal = terminal.new; sheet = sheet.new }) answers.new }
 {
     if answers.len() < calls.len() {
         return Err(Refusal::Sheet);

@@ -1,5 +1,6 @@
 -- The absent terminal: what its calls are answered, and its book.
 use Rattle.std.specs.Prelude.{Err}
+use Rattle.host.specs.Fault.{fault}
 use Rattle.host.specs.Calls.{TerminalCall, owner, acquire, release, TerminalReply}
 use Rattle.host.specs.Books.{TerminalBook, next_count}
 use Rattle.foreground.specs.declared.absent.AbsentTerminal.{AbsentTerminal}
@@ -15,7 +16,7 @@ fresh = record { own = 1; grants = 0; served = 0 }
 -- no group has the foreground, an acquire faults with 6, and a release does nothing
 abbrev pub answer : (c : TerminalCall) → TerminalReply c
 answer owner = 0
-answer (acquire group) = Err 6
+answer (acquire group) = Err (fault 6)
 answer release = tt
 
 -- the book with one more call served

@@ -6,6 +6,7 @@ ghost use Rattle.host.specs.Calls.{TerminalReply};
 ghost use Rattle.host.specs.Books.{TerminalBook, TerminalKeeps};
 ghost use Rattle.foreground.specs.Book.{answered};
 
+use host::fault::Fault;
 use host::terminal::Terminal;
 
 // How many calls were served, modulo 2^64.
@@ -48,9 +49,9 @@ impl Terminal for AbsentTerminal {
         0
     }
 
-    fn acquire(&mut self, _group: u32) -> Result<(), u16> {
+    fn acquire(&mut self, _group: u32) -> Result<(), Fault> {
         self.count();
-        Err(6)
+        Err(Fault::NO_TERMINAL)
     }
 
     fn release(&mut self) {
@@ -65,10 +66,10 @@ mod tests {
     #[test]
     fn nobody_gets_the_foreground(rt: HostRuntime) {
         let mut terminal = AbsentTerminal::new();
-        assert!(rt; terminal.own_group() == 1);
-        assert!(rt; terminal.owner() == 0);
-        assert!(rt; matches!(terminal.acquire(100), Err(6)));
+        assert_eq!(rt; terminal.own_group(), 1);
+        assert_eq!(rt; terminal.owner(), 0);
+        assert_eq!(rt; terminal.acquire(100), Err(Fault { code: 6 }));
         terminal.release();
-        assert!(rt; terminal.served == 3);
+        assert_eq!(rt; terminal.served, 3);
     }
 }

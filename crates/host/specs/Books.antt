@@ -1,5 +1,6 @@
 -- The books of a host and of a terminal: how a call and its answer move them, and which answers fit.
-use Rattle.std.specs.Prelude.{◌≡◌, ℕ, ◌+◌, ◌%◌, ◌^◌, ◌<◌, ◌≤◌, Bool, true, false, cond, List, [], ◌∷◌, ◌++◌, length, Some, None, Ok, Err, ◌==◌}
+use Rattle.std.specs.Prelude.{◌≡◌, ℕ, ◌+◌, ◌%◌, ◌^◌, ◌<◌, ◌≤◌, Bool, true, false, if◌then◌else◌, ◌||◌, List, [], ◌∷◌, ◌++◌, length, Some, None, Ok, Err, ◌==◌, ⊤}
+use Rattle.host.specs.declared.fault.Fault.{Fault}
 use Rattle.host.specs.declared.state.ProcessEnd.{ProcessEnd}
 use Rattle.host.specs.declared.state.ProcessEnd.TheVariants.{Exited, Signalled, Continued}
 use Rattle.host.specs.Calls.{HostCall, spawn, poll, wait, kill, signal, cont, let_go, hook, routine, tell, HostReply, TerminalCall, owner, acquire, release, TerminalReply, Call, to_host, to_terminal, Reply, Event}
@@ -17,48 +18,31 @@ next_count n = (n + 1) % 2 ^ 64
 -- whether a child is on the roster
 abbrev pub on_roster : ℕ → List ℕ → Bool
 on_roster n [] = false
-on_roster n (x ∷ xs) = cond (n == x) true (on_roster n xs)
+on_roster n (x ∷ xs) = n == x || on_roster n xs
 
 -- the roster without a child
 abbrev pub strike : ℕ → List ℕ → List ℕ
 strike n [] = []
-strike n (x ∷ xs) = cond (n == x) xs (x ∷ strike n xs)
+strike n (x ∷ xs) = if n == x then xs else x ∷ strike n xs
 
 -- a spawn that is answered a child adds it; an end and a let-go strike the child off; a fault leaves the roster
 abbrev pub roster_after : List ℕ → (c : HostCall) → HostReply c → List ℕ
 roster_after r (spawn program options way time) (Ok child) = r ++ child ∷ []
-roster_after r (spawn program options way time) (Err code) = r
-roster_after r (poll n) (Ok None) = r
 roster_after r (poll n) (Ok (Some end)) = strike n r
-roster_after r (poll n) (Err code) = r
 roster_after r (wait n) (Ok end) = strike n r
-roster_after r (wait n) (Err code) = r
-roster_after r (kill n) a = r
-roster_after r (signal n s) a = r
-roster_after r (cont n) a = r
 roster_after r (let_go n) a = strike n r
-roster_after r (hook n state previous) a = r
-roster_after r (routine n state previous) a = r
-roster_after r (tell handler code) a = r
+roster_after r c a = r
 
 abbrev pub spawns_after : ℕ → HostCall → ℕ
 spawns_after n (spawn program options way time) = next_count n
-spawns_after n (poll child) = n
-spawns_after n (wait child) = n
-spawns_after n (kill child) = n
-spawns_after n (signal child s) = n
-spawns_after n (cont child) = n
-spawns_after n (let_go child) = n
-spawns_after n (hook number state previous) = n
-spawns_after n (routine number state previous) = n
-spawns_after n (tell handler code) = n
+spawns_after n c = n
 
 abbrev pub host_after : HostBook → (c : HostCall) → HostReply c → HostBook
 host_after b c a = record { roster = roster_after b.roster c a; served = next_count b.served; spawns = spawns_after b.spawns c }
 
--- the code of a fault
-abbrev pub IsCode : ℕ → Type 0
-IsCode code = (1 ≤ code) × (code ≤ 4095)
+-- the code of a fault is from 1 to 4095
+abbrev pub IsFault : Fault → Type 0
+IsFault f = (1 ≤ f.code) × (f.code ≤ 4095)
 
 -- how a child may end
 abbrev pub IsEnd : ProcessEnd → Type 0
@@ -67,31 +51,31 @@ IsEnd (Signalled s) = (1 ≤ s) × (s ≤ 31)
 IsEnd Continued = ⊥
 
 -- a call that names a child may fault; it faults with 10 where the child is off the roster
-abbrev pub MayFault : ℕ → List ℕ → ℕ → Type 0
-MayFault n r code = IsCode code × (on_roster n r ≡ false → code ≡ 10)
+abbrev pub MayFault : ℕ → List ℕ → Fault → Type 0
+MayFault n r f = IsFault f × (on_roster n r ≡ false → f.code ≡ 10)
 
 -- the answers that fit a call at this roster, of which `most` is the longest
 abbrev pub HostFits : ℕ → List ℕ → (c : HostCall) → HostReply c → Type 0
 HostFits most r (spawn program options way time) (Ok child) = (on_roster child r ≡ false) × (1 ≤ child) × (child < 2 ^ 31) × (length r < most)
-HostFits most r (spawn program options way time) (Err code) = IsCode code × (most ≤ length r → code ≡ 11)
+HostFits most r (spawn program options way time) (Err f) = IsFault f × (most ≤ length r → f.code ≡ 11)
 HostFits most r (poll n) (Ok None) = on_roster n r ≡ true
 HostFits most r (poll n) (Ok (Some end)) = (on_roster n r ≡ true) × IsEnd end
-HostFits most r (poll n) (Err code) = MayFault n r code
+HostFits most r (poll n) (Err f) = MayFault n r f
 HostFits most r (wait n) (Ok end) = (on_roster n r ≡ true) × IsEnd end
-HostFits most r (wait n) (Err code) = MayFault n r code
+HostFits most r (wait n) (Err f) = MayFault n r f
 HostFits most r (kill n) (Ok u) = on_roster n r ≡ true
-HostFits most r (kill n) (Err code) = MayFault n r code
+HostFits most r (kill n) (Err f) = MayFault n r f
 HostFits most r (signal n s) (Ok u) = on_roster n r ≡ true
-HostFits most r (signal n s) (Err code) = MayFault n r code
+HostFits most r (signal n s) (Err f) = MayFault n r f
 HostFits most r (cont n) (Ok u) = on_roster n r ≡ true
-HostFits most r (cont n) (Err code) = MayFault n r code
-HostFits most r (let_go n) u = Unit {0}
-HostFits most r (hook n state previous) (Ok options) = Unit {0}
-HostFits most r (hook n state previous) (Err code) = IsCode code
-HostFits most r (routine n state previous) (Ok u) = Unit {0}
-HostFits most r (routine n state previous) (Err code) = IsCode code
-HostFits most r (tell handler code) (Ok u) = Unit {0}
-HostFits most r (tell handler code) (Err fault) = IsCode fault
+HostFits most r (cont n) (Err f) = MayFault n r f
+HostFits most r (let_go n) u = ⊤
+HostFits most r (hook n state previous) (Ok options) = ⊤
+HostFits most r (hook n state previous) (Err f) = IsFault f
+HostFits most r (routine n state previous) (Ok u) = ⊤
+HostFits most r (routine n state previous) (Err f) = IsFault f
+HostFits most r (tell handler told) (Ok u) = ⊤
+HostFits most r (tell handler told) (Err f) = IsFault f
 
 -- a call, its answer and the book after it keep the rules of the book
 pub record HostKeeps (most : ℕ) (b : HostBook) (c : HostCall) (a : HostReply c) (b' : HostBook) : Type 0 where
@@ -108,7 +92,7 @@ pub record TerminalBook : Type 0 where
 abbrev pub grants_after : ℕ → (c : TerminalCall) → TerminalReply c → ℕ
 grants_after n owner group = n
 grants_after n (acquire group) (Ok u) = 1
-grants_after n (acquire group) (Err code) = n
+grants_after n (acquire group) (Err f) = n
 grants_after n release u = 0
 
 abbrev pub terminal_after : TerminalBook → (c : TerminalCall) → TerminalReply c → TerminalBook
@@ -118,8 +102,8 @@ terminal_after b c a = record { own = b.own; grants = grants_after b.grants c a;
 abbrev pub TerminalFits : ℕ → (c : TerminalCall) → TerminalReply c → Type 0
 TerminalFits n owner group = group < 2 ^ 31
 TerminalFits n (acquire group) (Ok u) = n ≡ 0
-TerminalFits n (acquire group) (Err code) = IsCode code × (1 ≤ n → code ≡ 16)
-TerminalFits n release u = Unit {0}
+TerminalFits n (acquire group) (Err f) = IsFault f × (1 ≤ n → f.code ≡ 16)
+TerminalFits n release u = ⊤
 
 pub record TerminalKeeps (b : TerminalBook) (c : TerminalCall) (a : TerminalReply c) (b' : TerminalBook) : Type 0 where
   pub moved : b' ≡ terminal_after b c a
@@ -151,16 +135,7 @@ terminal_along b (e ∷ es) = terminal_along (terminal_moved b e.0 e.1) es
 
 abbrev pub is_spawn : Call → ℕ
 is_spawn (to_host (spawn program options way time)) = 1
-is_spawn (to_host (poll n)) = 0
-is_spawn (to_host (wait n)) = 0
-is_spawn (to_host (kill n)) = 0
-is_spawn (to_host (signal n s)) = 0
-is_spawn (to_host (cont n)) = 0
-is_spawn (to_host (let_go n)) = 0
-is_spawn (to_host (hook n state previous)) = 0
-is_spawn (to_host (routine n state previous)) = 0
-is_spawn (to_host (tell handler code)) = 0
-is_spawn (to_terminal c) = 0
+is_spawn c = 0
 
 abbrev pub spawns_in : List Event → ℕ
 spawns_in [] = 0

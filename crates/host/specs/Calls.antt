@@ -1,6 +1,7 @@
 -- What a job may ask of its host and of the terminal, and what each call may be answered.
-use Rattle.std.specs.Prelude.{ℕ, Option, Result}
+use Rattle.std.specs.Prelude.{ℕ, ⊤, Option, Result}
 use Rattle.host.specs.declared.command.SpawnOptions.{SpawnOptions}
+use Rattle.host.specs.declared.fault.Fault.{Fault}
 use Rattle.host.specs.declared.state.ProcessEnd.{ProcessEnd}
 use Rattle.host.specs.declared.state.CommandState.{CommandState}
 
@@ -18,21 +19,21 @@ pub data HostCall : Type 0 where
   -- the number of the hook or routine, the state and the previous state
   hook : ℕ → CommandState → Option CommandState → HostCall
   routine : ℕ → CommandState → Option CommandState → HostCall
-  -- the handler, and the code of the fault that it is told
-  tell : ℕ → ℕ → HostCall
+  -- the handler, and the fault that it is told
+  tell : ℕ → Fault → HostCall
 
--- the value that answers a call, or the code of a fault
+-- the value that answers a call, or a fault
 abbrev pub HostReply : HostCall → Type 0
-HostReply (spawn program options way time) = Result ℕ ℕ
-HostReply (poll child) = Result (Option ProcessEnd) ℕ
-HostReply (wait child) = Result ProcessEnd ℕ
-HostReply (kill child) = Result (Unit {0}) ℕ
-HostReply (signal child number) = Result (Unit {0}) ℕ
-HostReply (cont child) = Result (Unit {0}) ℕ
-HostReply (let_go child) = Unit {0}
-HostReply (hook number state previous) = Result SpawnOptions ℕ
-HostReply (routine number state previous) = Result (Unit {0}) ℕ
-HostReply (tell handler code) = Result (Unit {0}) ℕ
+HostReply (spawn program options way time) = Result ℕ Fault
+HostReply (poll child) = Result (Option ProcessEnd) Fault
+HostReply (wait child) = Result ProcessEnd Fault
+HostReply (kill child) = Result ⊤ Fault
+HostReply (signal child number) = Result ⊤ Fault
+HostReply (cont child) = Result ⊤ Fault
+HostReply (let_go child) = ⊤
+HostReply (hook number state previous) = Result SpawnOptions Fault
+HostReply (routine number state previous) = Result ⊤ Fault
+HostReply (tell handler fault) = Result ⊤ Fault
 
 -- the calls of a terminal
 pub data TerminalCall : Type 0 where
@@ -45,8 +46,8 @@ pub data TerminalCall : Type 0 where
 -- an owner of 0 says that there is no terminal
 abbrev pub TerminalReply : TerminalCall → Type 0
 TerminalReply owner = ℕ
-TerminalReply (acquire group) = Result (Unit {0}) ℕ
-TerminalReply release = Unit {0}
+TerminalReply (acquire group) = Result ⊤ Fault
+TerminalReply release = ⊤
 
 pub data Call : Type 0 where
   to_host : HostCall → Call

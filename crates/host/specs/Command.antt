@@ -1,10 +1,10 @@
 -- The options of a spawn and the number that a set of them is written as.
-use Rattle.std.specs.Prelude.{ℕ, ◌+◌, ◌/◌, ◌%◌, Bool, cond, Some, None, Option, ◌==◌, nat_le}
+use Rattle.std.specs.Prelude.{ℕ, ◌+◌, ◌/◌, ◌%◌, Bool, if◌then◌else◌, Some, None, Option, ◌==◌, nat_le}
 use Rattle.host.specs.declared.command.SpawnOptions.{SpawnOptions}
 
 -- a mark that is set counts its number
 abbrev pub mark : Bool → ℕ → ℕ
-mark b n = cond b n 0
+mark b n = if b then n else 0
 
 abbrev pub sum_of : SpawnOptions → ℕ
 sum_of o = mark o.grouped 1 + mark o.session 2 + mark o.reset_sigmask 4 + mark o.grant_foreground 8
@@ -16,6 +16,6 @@ has_mark sum n = sum / n % 2 == 1
 -- the options that a number from 0 to 15 is the sum of
 abbrev pub options_of : ℕ → Option SpawnOptions
 options_of sum =
-    cond (nat_le sum 15)
-    (Some (record { grouped = has_mark sum 1; session = has_mark sum 2; reset_sigmask = has_mark sum 4; grant_foreground = has_mark sum 8 }))
-    None
+    if nat_le sum 15
+    then Some (record { grouped = has_mark sum 1; session = has_mark sum 2; reset_sigmask = has_mark sum 4; grant_foreground = has_mark sum 8 })
+    else None

@@ -1,6 +1,8 @@
 -- Interaction trees: what is asked, and how it goes on by the answers.
 use Rattle.std.specs.Prelude.{◌≡◌, List, [], ◌∷◌}
-use Rattle.host.specs.Calls.{HostCall, HostReply, TerminalCall, TerminalReply, Call, to_host, to_terminal, Reply, Event}
+use Rattle.host.specs.declared.process.Host as Host
+use Rattle.host.specs.declared.terminal.Terminal as Terminal
+use Rattle.host.specs.Calls.{Call, to_host, to_terminal, Reply, Event}
 
 -- An interaction tree ends with a value, or makes a call and goes on by its answer.
 pub data Interaction (A : Type 0) : Type 0 where
@@ -27,7 +29,7 @@ pub record World (H T : Type 0) : Type 0 where
   pub host : H
   pub terminal : T
 
--- a call of the one leaves the other as it is
-abbrev pub Answered : {H T : Type 0} (hd : H → (c : HostCall) → HostReply c → H → Type 0) (td : T → (c : TerminalCall) → TerminalReply c → T → Type 0) → World H T → (c : Call) → Reply c → World H T → Type 0
-Answered hd td w (to_host c) a v = hd w.host c a v.host × (v.terminal ≡ w.terminal)
-Answered hd td w (to_terminal c) a v = td w.terminal c a v.terminal × (v.host ≡ w.host)
+-- a call is answered as the host or the terminal answers it, and leaves the other as it is
+abbrev pub Answered : {H T : Type 0} (by_host : Host.Ghosts H) (by_terminal : Terminal.Ghosts T) → World H T → (c : Call) → Reply c → World H T → Type 0
+Answered by_host by_terminal w (to_host c) a v = by_host.did w.host c a v.host × (v.terminal ≡ w.terminal)
+Answered by_host by_terminal w (to_terminal c) a v = by_terminal.did w.terminal c a v.terminal × (v.host ≡ w.host)

@@ -1,11 +1,13 @@
 -- The journal: the record of a call, and the numbers that records are written with.
-use Rattle.std.specs.Prelude.{ℕ, ◌+◌, List, map, ℤ, pos, neg_ℤ, Some, None, Ok, Err, Option, Result}
+use Rattle.std.specs.Prelude.{ℕ, ◌+◌, List, map, ℤ, pos, neg_ℤ, Some, None, Ok, Err, Option, Result, ⊤}
+use Rattle.host.specs.declared.fault.Fault.{Fault}
 use Rattle.host.specs.declared.state.ProcessEnd.{ProcessEnd}
 use Rattle.host.specs.declared.state.ProcessEnd.TheVariants.{Exited, Signalled, Continued}
 use Rattle.host.specs.declared.journal.CallKind.{CallKind}
 use Rattle.host.specs.declared.journal.CallKind.TheVariants.{Spawn, Poll, Wait, Kill, Signal, Cont, LetGo, Hook, Routine, Tell, Owner, Acquire, Release}
 use Rattle.host.specs.declared.journal.Answer.{Answer}
-use Rattle.host.specs.declared.journal.Answer.TheVariants.{Nothing, Child, Options, Group, End, Fault}
+use Rattle.host.specs.declared.journal.Answer.TheVariants.{Nothing, Child, Options, Group, End}
+use Rattle.host.specs.declared.journal.Answer.TheVariants as Answers
 use Rattle.host.specs.declared.journal.Record.{Record}
 use Rattle.host.specs.Command.{sum_of}
 use Rattle.host.specs.Calls.{HostCall, spawn, poll, wait, kill, signal, cont, let_go, hook, routine, tell, HostReply, TerminalCall, owner, acquire, release, TerminalReply, Call, to_host, to_terminal, Reply, Event}
@@ -36,19 +38,19 @@ answer_number (Group n) = pos n
 answer_number (End (Exited code)) = pos (1000 + code)
 answer_number (End (Signalled s)) = pos (2000 + s)
 answer_number (End Continued) = pos 0
-answer_number (Fault code) = neg_ℤ (pos code)
+answer_number (Answers.Fault f) = neg_ℤ (pos f.code)
 
--- a value is recorded by f, a fault by its code
-abbrev pub or_fault : {A : Type 0} → (A → Answer) → Result A ℕ → Answer
+-- a value is recorded by f, a fault as itself
+abbrev pub or_fault : {A : Type 0} → (A → Answer) → Result A Fault → Answer
 or_fault f (Ok x) = f x
-or_fault f (Err code) = Fault code
+or_fault f (Err fault) = Answers.Fault fault
 
 -- a child that goes on is recorded as nothing
 abbrev pub end_or_nothing : Option ProcessEnd → Answer
 end_or_nothing None = Nothing
 end_or_nothing (Some e) = End e
 
-abbrev pub nothing : Unit {0} → Answer
+abbrev pub nothing : ⊤ → Answer
 nothing u = Nothing
 
 abbrev pub entry : CallKind → ℕ → ℕ → Answer → Record
@@ -65,7 +67,7 @@ host_record (cont n) a = entry Cont n 0 (or_fault nothing a)
 host_record (let_go n) a = entry LetGo n 0 Nothing
 host_record (hook n state previous) a = entry Hook 0 n (or_fault Options a)
 host_record (routine n state previous) a = entry Routine 0 n (or_fault nothing a)
-host_record (tell handler code) a = entry Tell 0 code (or_fault nothing a)
+host_record (tell handler told) a = entry Tell 0 told.code (or_fault nothing a)
 
 abbrev pub terminal_record : (c : TerminalCall) → TerminalReply c → Record
 terminal_record owner a = entry Owner 0 0 (Group a)

@@ -1,6 +1,7 @@
-pub mod Command
-pub mod State
+pub mod Books
 pub mod Calls
+pub mod Command
+pub mod Fault
 pub mod Interaction
 pub mod Journal
-pub mod Books
+pub mod State

@@ -6,21 +6,17 @@ use Rattle.host.specs.declared.state.CommandState.TheVariants.{Pending, Running,
 
 abbrev pub is_pending : CommandState → Bool
 is_pending Pending = true
-is_pending (Running child started) = false
-is_pending (Finished end started finished) = false
+is_pending state = false
 
 abbrev pub is_running : CommandState → Bool
-is_running Pending = false
 is_running (Running child started) = true
-is_running (Finished end started finished) = false
+is_running state = false
 
 abbrev pub is_finished : CommandState → Bool
-is_finished Pending = false
-is_finished (Running child started) = false
 is_finished (Finished end started finished) = true
+is_finished state = false
 
 -- a run that still goes is kept as ended by Continued at this time
 abbrev pub kept : ℕ → CommandState → CommandState
-kept time Pending = Pending
 kept time (Running child started) = Finished Continued started time
-kept time (Finished end started finished) = Finished end started finished
+kept time state = state

@@ -1,9 +1,9 @@
 // The command that a job manages, and the options of a spawn.
-ghost use Rattle.std.specs.Prelude.{◌≡◌};
+ghost use Rattle.std.specs.Prelude.{◌≡◌, Some, None, MatchResult};
 ghost use Rattle.host.specs.Command as Options;
 
 // Options of a spawn. Each is a mark with a number of its own; a set of them is written as their sum.
-#[derive(Clone, Copy)]
+#[derive(Clone, Copy, Debug, Default, PartialEq, Eq)]
 pub struct SpawnOptions {
     pub grouped: bool,
     pub session: bool,
@@ -12,37 +12,41 @@ pub struct SpawnOptions {
 }
 
 // A program, named by a number from 1 to 255, and the options that it is spawned with.
-#[derive(Clone, Copy)]
+#[derive(Clone, Copy, Debug, PartialEq, Eq)]
 pub struct Command {
     pub program: u8,
     pub options: SpawnOptions,
 }
 
-fn mark(set: bool, number: u8) -> u8
-    ensures { result ≡ Options.mark set number }
-{
-    if set { number } else { 0 }
+// A number that is no sum of marks.
+#[derive(Clone, Copy, Debug, PartialEq, Eq)]
+pub struct NoSum {
+    pub number: u8,
 }
 
-impl SpawnOptions {
-    // The sum of the marks that are set.
-    pub fn sum(self) -> u8
-        ensures { result ≡ Options.sum_of self }
-    {
-        mark(self.grouped, 1)
-            + mark(self.session, 2)
-            + mark(self.reset_sigmask, 4)
-            + mark(self.grant_foreground, 8)
-    }
+// The sum of the marks that are set.
+impl From<SpawnOptions> for u8 {
+    ghost from_gives = { λ options sum. sum ≡ Options.sum_of options };
 
-    // The options that a number is the sum of; none for a number over 15.
-    pub fn from_sum(sum: u8) -> Option<SpawnOptions>
-        ensures { result ≡ Options.options_of sum }
-    {
+    fn from(options: SpawnOptions) -> u8 {
+        u8::from(options.grouped)
+            + 2 * u8::from(options.session)
+            + 4 * u8::from(options.reset_sigmask)
+            + 8 * u8::from(options.grant_foreground)
+    }
+}
+
+// The options that a number from 0 to 15 is the sum of.
+impl TryFrom<u8> for SpawnOptions {
+    type Error = NoSum;
+
+    ghost try_from_gives = { λ sum r. MatchResult r (λ options. Options.options_of sum ≡ Some options) (λ error. (Options.options_of sum ≡ None) × (error.number ≡ sum)) };
+
+    fn try_from(sum: u8) -> Result<SpawnOptions, NoSum> {
         if sum > 15 {
-            return None;
+            return Err(NoSum { number: sum });
         }
-        Some(SpawnOptions {
+        Ok(SpawnOptions {
             grouped: sum % 2 == 1,
             session: sum / 2 % 2 == 1,
             reset_sigmask: sum / 4 % 2 == 1,

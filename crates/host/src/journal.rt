@@ -3,10 +3,11 @@ ghost use Rattle.std.specs.Prelude.{◌≡◌};
 ghost use Rattle.host.specs.Journal.{call_number, answer_number};
 
 use crate::command::SpawnOptions;
+use crate::fault::Fault;
 use crate::state::ProcessEnd;
 
 // The calls of a host, and then those of a terminal.
-#[derive(Clone, Copy, PartialEq, Eq)]
+#[derive(Clone, Copy, Debug, PartialEq, Eq)]
 pub enum CallKind {
     Spawn = 1,
     Poll = 2,
@@ -23,48 +24,58 @@ pub enum CallKind {
     Release = 13,
 }
 
-impl CallKind {
-    // The number that a call is written with.
-    pub fn number(self) -> u8
-        ensures { result ≡ call_number self }
-    {
-        self as u8
+// The number that a call is written with.
+impl From<CallKind> for u8 {
+    ghost from_gives = { λ call number. number ≡ call_number call };
+
+    fn from(call: CallKind) -> u8 {
+        call as u8
     }
 }
 
 // What a call was answered.
-#[derive(Clone, Copy)]
+#[derive(Clone, Copy, Debug, PartialEq, Eq)]
 pub enum Answer {
     Nothing,
     Child(u32),
     Options(SpawnOptions),
     Group(u32),
     End(ProcessEnd),
-    Fault(u16),
+    Fault(Fault),
 }
 
-impl Answer {
-    // The number that an answer is written with.
-    pub fn number(self) -> i64
-        ensures { result ≡ answer_number self }
-    {
-        match self {
+// The number that an answer is written with.
+impl From<Answer> for i64 {
+    ghost from_gives = { λ answer number. number ≡ answer_number answer };
+
+    fn from(answer: Answer) -> i64 {
+        match answer {
             Answer::Nothing | Answer::End(ProcessEnd::Continued) => 0,
             Answer::Child(number) | Answer::Group(number) => i64::from(number),
-            Answer::Options(options) => i64::from(options.sum()),
+            Answer::Options(options) => i64::from(u8::from(options)),
             Answer::End(ProcessEnd::Exited(code)) => 1000 + i64::from(code),
             Answer::End(ProcessEnd::Signalled(signal)) => 2000 + i64::from(signal),
-            Answer::Fault(code) => -i64::from(code),
+            Answer::Fault(fault) => -i64::from(fault.code),
         }
     }
 }
 
 // A call: the child that it names (0 for none), its number (spawn's way, the signal, the hook or routine, the code told,
 // the group acquired, else 0) and its answer.
-#[derive(Clone, Copy)]
+#[derive(Clone, Copy, Debug, PartialEq, Eq)]
 pub struct Record {
     pub call: CallKind,
     pub child: u32,
     pub number: u32,
     pub answer: Answer,
+}
+
+impl Record {
+    // Fills a place of a sheet that no step has written yet.
+    pub const BLANK: Record = Record {
+        call: CallKind::Release,
+        child: 0,
+        number: 0,
+        answer: Answer::Nothing,
+    };
 }

@@ -2,6 +2,7 @@
 #![tactic(auto)]
 
 pub mod command;
+pub mod fault;
 pub mod journal;
 pub mod process;
 pub mod state;

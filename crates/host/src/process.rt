@@ -5,9 +5,10 @@ ghost use Rattle.host.specs.Calls as Calls;
 ghost use Rattle.host.specs.Books.{HostBook, HostKeeps};
 
 use crate::command::SpawnOptions;
+use crate::fault::Fault;
 use crate::state::{CommandState, ProcessEnd};
 
-// A fault is the code of an error, 1 to 4095.
+// Each call may fault, but for `let_go`.
 pub trait Host {
     // The most children that the roster can hold.
     const MOST: usize;
@@ -27,22 +28,28 @@ pub trait Host {
     fn is_full(&self) -> bool
         ensures { result ≡ nat_le most (length (book self.now).roster) };
 
-    fn spawn(&mut self, program: u8, options: SpawnOptions, way: u8, time: u64) -> Result<u32, u16>
+    fn spawn(
+        &mut self,
+        program: u8,
+        options: SpawnOptions,
+        way: u8,
+        time: u64,
+    ) -> Result<u32, Fault>
         ensures { did self.old (Calls.spawn program options way time) result self.new };
 
-    fn poll(&mut self, child: u32) -> Result<Option<ProcessEnd>, u16>
+    fn poll(&mut self, child: u32) -> Result<Option<ProcessEnd>, Fault>
         ensures { did self.old (Calls.poll child) result self.new };
 
-    fn wait(&mut self, child: u32) -> Result<ProcessEnd, u16>
+    fn wait(&mut self, child: u32) -> Result<ProcessEnd, Fault>
         ensures { did self.old (Calls.wait child) result self.new };
 
-    fn kill(&mut self, child: u32) -> Result<(), u16>
+    fn kill(&mut self, child: u32) -> Result<(), Fault>
         ensures { did self.old (Calls.kill child) result self.new };
 
-    fn signal(&mut self, child: u32, signal: u8) -> Result<(), u16>
+    fn signal(&mut self, child: u32, signal: u8) -> Result<(), Fault>
         ensures { did self.old (Calls.signal child signal) result self.new };
 
-    fn cont(&mut self, child: u32) -> Result<(), u16>
+    fn cont(&mut self, child: u32) -> Result<(), Fault>
         ensures { did self.old (Calls.cont child) result self.new };
 
     fn let_go(&mut self, child: u32)
@@ -53,7 +60,7 @@ pub trait Host {
         number: u8,
         state: CommandState,
         previous: Option<CommandState>,
-    ) -> Result<SpawnOptions, u16>
+    ) -> Result<SpawnOptions, Fault>
         ensures { did self.old (Calls.hook number state previous) result self.new };
 
     fn routine(
@@ -61,11 +68,11 @@ pub trait Host {
         number: u8,
         state: CommandState,
         previous: Option<CommandState>,
-    ) -> Result<(), u16>
+    ) -> Result<(), Fault>
         ensures { did self.old (Calls.routine number state previous) result self.new };
 
-    fn tell(&mut self, handler: u8, code: u16) -> Result<(), u16>
-        ensures { did self.old (Calls.tell handler code) result self.new };
+    fn tell(&mut self, handler: u8, fault: Fault) -> Result<(), Fault>
+        ensures { did self.old (Calls.tell handler fault) result self.new };
 
     ghost keeps: { (h : Self) (c : HostCall) (a : HostReply c) (k : Self) → did h c a k → HostKeeps most (book h) c a (book k) };
 

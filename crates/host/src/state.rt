@@ -3,7 +3,7 @@ ghost use Rattle.std.specs.Prelude.{◌≡◌};
 ghost use Rattle.host.specs.State as State;
 
 // How a child process ended: by an exit code, by a signal, or, where a job is reset while it runs, not at all.
-#[derive(Clone, Copy)]
+#[derive(Clone, Copy, Debug, PartialEq, Eq)]
 pub enum ProcessEnd {
     Exited(u8),
     Signalled(u8),
@@ -11,7 +11,7 @@ pub enum ProcessEnd {
 }
 
 // The state of a job's command. Times are in milliseconds.
-#[derive(Clone, Copy)]
+#[derive(Clone, Copy, Debug, PartialEq, Eq)]
 pub enum CommandState {
     Pending,
     Running {

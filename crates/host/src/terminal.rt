@@ -4,6 +4,8 @@ ghost use Rattle.host.specs.Calls.{TerminalCall, TerminalReply};
 ghost use Rattle.host.specs.Calls as Calls;
 ghost use Rattle.host.specs.Books.{TerminalBook, TerminalKeeps, IsTerminal};
 
+use crate::fault::Fault;
+
 pub trait Terminal {
     ghost book: { Self → TerminalBook };
 
@@ -19,7 +21,7 @@ pub trait Terminal {
         ensures { did self.old Calls.owner result self.new };
 
     // Gives the foreground to a group.
-    fn acquire(&mut self, group: u32) -> Result<(), u16>
+    fn acquire(&mut self, group: u32) -> Result<(), Fault>
         ensures { did self.old (Calls.acquire group) result self.new };
 
     // Takes the foreground back.

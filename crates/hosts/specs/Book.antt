@@ -1,13 +1,15 @@
 -- The book of the simulated host keeps its rules.
-use Rattle.std.specs.Prelude.{◌≡◌, ℕ, ◌^◌, ◌<◌, ◌≤◌, Bool, true, false, cond, List, [], ◌∷◌, ◌++◌, length, is_some, Some, None, Ok, Err, Option, Result, ◌==◌, nat_le, nat_lt, refl}
+use Rattle.std.specs.Prelude.{◌≡◌, ℕ, ◌^◌, ◌<◌, ◌≤◌, Bool, true, false, cond, ◌||◌, List, [], ◌∷◌, ◌++◌, length, is_some, Some, None, Ok, Err, Option, Result, ◌==◌, nat_le, nat_lt, refl, ⊤}
 use Rattle.std.proofs.Common.{sym, ap, ◌∙◌, arith}
 use Rattle.std.proofs.lemmas.List.{map-append, length-map}
-use Rattle.std.proofs.lemmas.Bool.{true≢false, ltb-true, leb-true, eqb-true, ne_eqb, and_parts, both_ways, cond-false, cond_both}
+use Rattle.std.proofs.lemmas.Bool.{true≢false, ltb-true, leb-true, eqb-true, ne_eqb, and_parts, both_ways, cond_both}
+use Rattle.host.specs.Fault.{fault}
+use Rattle.host.specs.declared.fault.Fault.{Fault}
 use Rattle.host.specs.declared.command.SpawnOptions.{SpawnOptions}
 use Rattle.host.specs.declared.state.ProcessEnd.{ProcessEnd}
 use Rattle.host.specs.declared.state.ProcessEnd.TheVariants.{Exited, Signalled, Continued}
 use Rattle.host.specs.Calls.{HostCall, spawn, poll, wait, kill, signal, cont, let_go, hook, routine, tell, HostReply}
-use Rattle.host.specs.Books.{HostFits, HostKeeps, IsCode, IsEnd, MayFault, next_count, on_roster, roster_after, spawns_after, strike}
+use Rattle.host.specs.Books.{HostFits, HostKeeps, IsEnd, IsFault, MayFault, next_count, on_roster, roster_after, spawns_after, strike}
 use Rattle.hosts.specs.declared.children.Life.{Life}
 use Rattle.hosts.specs.declared.children.Life.TheVariants.{Going, Stopped, Ended}
 use Rattle.hosts.specs.declared.children.Child.{Child}
@@ -21,7 +23,7 @@ use Rattle.hosts.specs.Simulated.{Sim, book_of, answer, after, children_after, p
 on_is_some : (n : ℕ) (cs : List Child) → on_roster n (numbers cs) ≡ is_some (life_of n cs)
 on_is_some n [] = refl
 on_is_some n (c ∷ cs) =
-    elim (n == c.number) as (λ b. cond b true (on_roster n (numbers cs)) ≡ is_some (cond b (Some c.life) (life_of n cs)))
+    elim (n == c.number) as (λ b. (b || on_roster n (numbers cs)) ≡ is_some (cond b (Some c.life) (life_of n cs)))
     [ true ↦ refl | false ↦ on_is_some n cs ]
 
 numbers-without : (n : ℕ) (cs : List Child) → numbers (without n cs) ≡ strike n (numbers cs)
@@ -44,7 +46,7 @@ next_is_off next [] h = refl
 next_is_off next (c ∷ cs) h =
     let p = and_parts (is_sound next c) (all_sound next cs) h in
     let l : c.number < next = ltb-true c.number next (and_parts _ _ p.0).0 in
-    cond-false _ _ _ (ne_eqb next c.number (λ e. omega arith)) ∙ next_is_off next cs p.1
+    ap (λ (b : Bool). b || on_roster next (numbers cs)) (ne_eqb next c.number (λ e. omega arith)) ∙ next_is_off next cs p.1
 
 life_fits : (next n : ℕ) (cs : List Child) (life : Life) → all_sound next cs ≡ true → life_of n cs ≡ Some life → is_fit life ≡ true
 life_fits next n [] life h = λ e. absurd (true≢false (sym (ap is_some e)))
@@ -78,17 +80,17 @@ module _ (s : Sim) (begun : 100 ≤ s.next) (sound : all_sound s.next s.children
   on n life e = on_is_some n cs ∙ ap is_some e
 
   -- off the roster, the fault is 10
-  off : (n : ℕ) → MayFault n roster 10
+  off : (n : ℕ) → MayFault n roster (fault 10)
   off n = ((omega arith, omega arith), λ _. refl)
 
   -- on the roster, it may be any
-  on_faults : (n code : ℕ) (life : Life) → life_of n cs ≡ Some life → IsCode code → MayFault n roster code
+  on_faults : (n code : ℕ) (life : Life) → life_of n cs ≡ Some life → IsFault (fault code) → MayFault n roster (fault code)
   on_faults n code life e h = (h, λ o. absurd (both_ways _ o (on n life e)))
 
   ends : (n : ℕ) (end : ProcessEnd) → life_of n cs ≡ Some (Ended end) → (on_roster n roster ≡ true) × IsEnd end
   ends n end e = (on n (Ended end) e, end_fits end (life_fits s.next n cs (Ended end) sound e))
 
-  spawned : (program : ℕ) (options : SpawnOptions) (way time : ℕ) (b : Bool) → has_room s.next cs ≡ b → Rules (spawn program options way time) (cond b (Ok s.next) (Err 11)) (cond b (cs ++ child s.next Going ∷ []) cs)
+  spawned : (program : ℕ) (options : SpawnOptions) (way time : ℕ) (b : Bool) → has_room s.next cs ≡ b → Rules (spawn program options way time) (cond b (Ok s.next) (Err (fault 11))) (cond b (cs ++ child s.next Going ∷ []) cs)
   spawned program options way time true e =
       let p = and_parts (nat_lt (length cs) 16) (nat_lt s.next (2 ^ 31)) e in
       let few : length cs < 16 = ltb-true (length cs) 16 p.0 in
@@ -109,9 +111,9 @@ module _ (s : Sim) (begun : 100 ≤ s.next) (sound : all_sound s.next s.children
   waited n (Some (Ended end)) e = (numbers-without n cs, ends n end e)
 
   -- what holds of a fit fault, and of Ok where the child is on the roster, holds of the answer to a signal
-  sent : (P : Result (Unit {0}) ℕ → Type 0) → (n number : ℕ) (o : Option Life) → life_of n cs ≡ o → ((code : ℕ) → MayFault n roster code → P (Err code)) → (on_roster n roster ≡ true → P (Ok tt)) → P (signal_answer number o)
-  sent P n number None e faults granted = faults 10 (off n)
-  sent P n number (Some life) e faults granted = cond_both (nat_le number 31) (Ok tt) (Err 22) P (λ _. granted (on n life e)) (λ _. faults 22 (on_faults n 22 life e (omega arith, omega arith)))
+  sent : (P : Result ⊤ Fault → Type 0) → (n number : ℕ) (o : Option Life) → life_of n cs ≡ o → ((f : Fault) → MayFault n roster f → P (Err f)) → (on_roster n roster ≡ true → P (Ok tt)) → P (signal_answer number o)
+  sent P n number None e faults granted = faults (fault 10) (off n)
+  sent P n number (Some life) e faults granted = cond_both (nat_le number 31) (Ok tt) (Err (fault 22)) P (λ _. granted (on n life e)) (λ _. faults (fault 22) (on_faults n 22 life e (omega arith, omega arith)))
 
   same_roster : (n number : ℕ) (o : Option Life) → numbers (signalled s.mask number n o cs) ≡ roster
   same_roster n number None = refl

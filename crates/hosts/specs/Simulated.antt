@@ -1,5 +1,7 @@
 -- The simulated host: what each call is answered, and what the host holds after it.
-use Rattle.std.specs.Prelude.{ℕ, ◌+◌, cond, List, [], ◌∷◌, ◌++◌, Some, None, Ok, Err, Option, Result, nat_le}
+use Rattle.std.specs.Prelude.{ℕ, ◌+◌, cond, List, [], ◌∷◌, ◌++◌, Some, None, Ok, Err, Option, Result, nat_le, ⊤}
+use Rattle.host.specs.Fault.{fault}
+use Rattle.host.specs.declared.fault.Fault.{Fault}
 use Rattle.host.specs.declared.command.SpawnOptions.{SpawnOptions}
 use Rattle.host.specs.declared.state.ProcessEnd.{ProcessEnd}
 use Rattle.host.specs.Calls.{HostCall, spawn, poll, wait, kill, signal, cont, let_go, hook, routine, tell, HostReply}
@@ -37,27 +39,27 @@ book_of s = record { roster = numbers s.children; served = s.served; spawns = s.
 -- ANSWERS, by the life of the child that a call names: None where it is off the roster, and then the fault is 10
 
 -- a living child answers nothing, an ended one its end
-abbrev pub poll_answer : Option Life → Result (Option ProcessEnd) ℕ
-poll_answer None = Err 10
+abbrev pub poll_answer : Option Life → Result (Option ProcessEnd) Fault
+poll_answer None = Err (fault 10)
 poll_answer (Some Going) = Ok None
 poll_answer (Some Stopped) = Ok None
 poll_answer (Some (Ended end)) = Ok (Some end)
 
 -- an ended child answers its end; to wait for a living one faults with 4
-abbrev pub wait_answer : Option Life → Result ProcessEnd ℕ
-wait_answer None = Err 10
-wait_answer (Some Going) = Err 4
-wait_answer (Some Stopped) = Err 4
+abbrev pub wait_answer : Option Life → Result ProcessEnd Fault
+wait_answer None = Err (fault 10)
+wait_answer (Some Going) = Err (fault 4)
+wait_answer (Some Stopped) = Err (fault 4)
 wait_answer (Some (Ended end)) = Ok end
 
 -- a signal over 31 faults with 22
-abbrev pub signal_answer : ℕ → Option Life → Result (Unit {0}) ℕ
-signal_answer s None = Err 10
-signal_answer s (Some life) = cond (nat_le s 31) (Ok tt) (Err 22)
+abbrev pub signal_answer : ℕ → Option Life → Result ⊤ Fault
+signal_answer s None = Err (fault 10)
+signal_answer s (Some life) = cond (nat_le s 31) (Ok tt) (Err (fault 22))
 
 -- the answer of each call; a spawn without room faults with 11, kill is signal 9, and cont is signal 18
 abbrev pub answer : Sim → (c : HostCall) → HostReply c
-answer s (spawn program options way time) = cond (has_room s.next s.children) (Ok s.next) (Err 11)
+answer s (spawn program options way time) = cond (has_room s.next s.children) (Ok s.next) (Err (fault 11))
 answer s (poll n) = poll_answer (life_of n s.children)
 answer s (wait n) = wait_answer (life_of n s.children)
 answer s (kill n) = signal_answer 9 (life_of n s.children)

@@ -15,6 +15,7 @@ ghost use Rattle.std.proofs.lemmas.List.{length-map};
 
 use crate::children::{Life, MOST, Roster};
 use host::command::SpawnOptions;
+use host::fault::Fault;
 use host::process::Host;
 use host::state::{CommandState, ProcessEnd};
 
@@ -41,14 +42,14 @@ impl SimulatedHost {
         }
     }
 
-    fn send(&mut self, child: u32, signal: u8) -> Result<(), u16>
+    fn send(&mut self, child: u32, signal: u8) -> Result<(), Fault>
         ensures answer { result ≡ answer (view self.old) (Calls.signal child signal) }
         ensures after { view self.new ≡ after (view self.old) (Calls.signal child signal) }
     {
         self.served = self.served.wrapping_add(1);
         match self.roster.life(child) {
-            None => Err(10),
-            Some(_) if signal > 31 => Err(22),
+            None => Err(Fault::NO_CHILD),
+            Some(_) if signal > 31 => Err(Fault::INVALID),
             Some(life) => {
                 self.roster.put(child, life.delivered(self.mask, signal));
                 Ok(())
@@ -105,42 +106,42 @@ impl Host for SimulatedHost {
         _options: SpawnOptions,
         _way: u8,
         _time: u64,
-    ) -> Result<u32, u16> {
+    ) -> Result<u32, Fault> {
         self.served = self.served.wrapping_add(1);
         self.spawns = self.spawns.wrapping_add(1);
         match self.roster.add() {
             Some(child) => Ok(child),
-            None => Err(11),
+            None => Err(Fault::NO_ROOM),
         }
     }
 
-    fn poll(&mut self, child: u32) -> Result<Option<ProcessEnd>, u16> {
+    fn poll(&mut self, child: u32) -> Result<Option<ProcessEnd>, Fault> {
         self.served = self.served.wrapping_add(1);
         match self.roster.report(child) {
-            None => Err(10),
+            None => Err(Fault::NO_CHILD),
             Some(Life::Going | Life::Stopped) => Ok(None),
             Some(Life::Ended(end)) => Ok(Some(end)),
         }
     }
 
-    fn wait(&mut self, child: u32) -> Result<ProcessEnd, u16> {
+    fn wait(&mut self, child: u32) -> Result<ProcessEnd, Fault> {
         self.served = self.served.wrapping_add(1);
         match self.roster.report(child) {
-            None => Err(10),
-            Some(Life::Going | Life::Stopped) => Err(4),
+            None => Err(Fault::NO_CHILD),
+            Some(Life::Going | Life::Stopped) => Err(Fault::INTERRUPTED),
             Some(Life::Ended(end)) => Ok(end),
         }
     }
 
-    fn kill(&mut self, child: u32) -> Result<(), u16> {
+    fn kill(&mut self, child: u32) -> Result<(), Fault> {
         self.send(child, 9)
     }
 
-    fn signal(&mut self, child: u32, signal: u8) -> Result<(), u16> {
+    fn signal(&mut self, child: u32, signal: u8) -> Result<(), Fault> {
         self.send(child, signal)
     }
 
-    fn cont(&mut self, child: u32) -> Result<(), u16> {
+    fn cont(&mut self, child: u32) -> Result<(), Fault> {
         self.send(child, 18)
     }
 
@@ -154,7 +155,7 @@ impl Host for SimulatedHost {
         _number: u8,
         _state: CommandState,
         _previous: Option<CommandState>,
-    ) -> Result<SpawnOptions, u16> {
+    ) -> Result<SpawnOptions, Fault> {
         self.served = self.served.wrapping_add(1);
         Ok(self.options)
     }
@@ -164,12 +165,12 @@ impl Host for SimulatedHost {
         _number: u8,
         _state: CommandState,
         _previous: Option<CommandState>,
-    ) -> Result<(), u16> {
+    ) -> Result<(), Fault> {
         self.served = self.served.wrapping_add(1);
         Ok(())
     }
 
-    fn tell(&mut self, _handler: u8, _code: u16) -> Result<(), u16> {
+    fn tell(&mut self, _handler: u8, _fault: Fault) -> Result<(), Fault> {
         self.served = self.served.wrapping_add(1);
         Ok(())
     }

@@ -20,7 +20,7 @@ fn faulty_line(heap: Global, refusal: u8, number: usize) -> Result<String, Alloc
 pub(crate) fn faulty(heap: Global, number: usize) -> Result<String, AllocError>
     ensures { IfOk result (λ t. string_bytes t ≡ faulty_text 13 number) }
 {
-    faulty_line(heap, Refusal::Line.number(), number)
+    faulty_line(heap, u8::from(Refusal::Line), number)
 }
 
 fn answer_line(
@@ -54,10 +54,10 @@ fn buffer(
 fn record_line(heap: Global, written: &Record) -> Result<String, AllocError>
     ensures { IfOk result (λ t. string_bytes t ≡ record_text written.now) }
 {
-    let call = written.call.number();
+    let call = u8::from(written.call);
     let child = written.child;
     let number = written.number;
-    let answer = written.answer.number();
+    let answer = i64::from(written.answer);
     format!(in heap; "j\t{call}\t{child}\t{number}\t{answer}\n")
 }
 
@@ -99,6 +99,6 @@ pub(crate) fn lines(
 {
     match answer {
         Ok(granted) => granted_lines(heap, number, letter, granted, sheet),
-        Err(refusal) => buffer(heap, number, letter, refusal.number(), 0),
+        Err(refusal) => buffer(heap, number, letter, u8::from(refusal), 0),
     }
 }

@@ -105,7 +105,7 @@ impl Rehearsal {
                 .control_step(&mut self.host, &mut self.terminal, &mut self.sheet, time)?,
         };
         Ok(Granted {
-            value: u32::from(stepped.progress.number()),
+            value: u32::from(u8::from(stepped.progress)),
             records: stepped.records,
         })
     }

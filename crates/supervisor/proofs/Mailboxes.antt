@@ -1,5 +1,6 @@
 -- The mailbox stays in order: sending, taking, raising and collecting keep its tickets in balance.
 use Rattle.std.proofs.Common.{◌≡◌, ℕ, ◌+◌, ◌<◌, ◌≤◌, Bool, true, false, cond, eqb, List, [], ◌∷◌, ◌++◌, length, refl, ap, ◌∙◌, arith}
+use Rattle.std.specs.Prelude.{⊤}
 use Rattle.std.proofs.lemmas.Bool.{eqb-true, ne_eqb, cond-false}
 use Rattle.tickets.specs.declared.flag.Mark.{Mark}
 use Rattle.tickets.specs.Tickets.{is_waiting, is_raised, is_taken, raise_each, put, new_mark, found, vacate, free_places}
@@ -55,7 +56,7 @@ endings_in hand m h =
 
 -- a message that is taken leaves its ticket in hand
 abbrev pub TakenIn : MailboxView → Taken → Type 0
-TakenIn m nothing = Unit {0}
+TakenIn m nothing = ⊤
 TakenIn m (from_queue c q) = InOrder (c.ticket ∷ []) (with_queues q m)
 
 less_in : (c : ControlMessage) (q : QueuesView) (m : MailboxView) → InOrder [] m → ((w : ℕ → ℕ) → w c.ticket + weigh_queues w q ≡ weigh_queues w m.queues) → InOrder (c.ticket ∷ []) (with_queues q m)

@@ -1,5 +1,5 @@
 -- The numbers of the refusals.
-use Rattle.std.specs.Prelude.{ℕ, Ok, Err, Result}
+use Rattle.std.specs.Prelude.{ℕ, Ok, Err, Result, ⊤}
 use Rattle.supervisor.specs.declared.errors.Refusal.{Refusal}
 use Rattle.supervisor.specs.declared.errors.Refusal.TheVariants.{Closed, Sheet, Clock, Signal, Grace, Number, Queue, Tickets, Unwatched, Pauses, Unknown, Waiting, Line}
 
@@ -20,5 +20,5 @@ refusal_number Line = 13
 
 -- where a call was refused, P holds
 abbrev pub Refused : {A : Type 0} → Result A Refusal → Type 0 → Type 0
-Refused (Ok x) P = Unit {0}
+Refused (Ok x) P = ⊤
 Refused (Err r) P = P

@@ -1,5 +1,5 @@
 -- The job: what it holds, how it is made, its sends, looks and collects, and its steps.
-use Rattle.std.specs.Prelude.{ℕ, ◌+◌, ◌^◌, Bool, true, false, cond, ◌&&◌, [], Some, None, Ok, Err, Option, Result, ◌==◌, nat_le}
+use Rattle.std.specs.Prelude.{ℕ, ◌+◌, ◌^◌, Bool, true, false, cond, ◌&&◌, [], Some, None, Ok, Err, Option, Result, ◌==◌, nat_le, ⊤}
 use Rattle.host.specs.declared.command.SpawnOptions.{SpawnOptions}
 use Rattle.host.specs.declared.command.Command.{Command}
 use Rattle.host.specs.declared.state.CommandState.TheVariants.{Pending}
@@ -85,13 +85,13 @@ looked closed Raised = Ok true
 abbrev pub look : ℕ → JobView → Result Bool Refusal
 look ticket v = cond (ticket == 0) (Ok true) (looked v.closed (found ticket v.mailbox.table))
 
-abbrev pub collected : Result Bool Refusal → ℕ → JobView → JobView × Result (Unit {0}) Refusal
+abbrev pub collected : Result Bool Refusal → ℕ → JobView → JobView × Result ⊤ Refusal
 collected (Ok true) ticket v = (with_mailbox (Mail.vacated ticket v.mailbox) v, Ok tt)
 collected (Ok false) ticket v = (v, Err Waiting)
 collected (Err r) ticket v = (v, Err r)
 
 -- what a look calls done is collected; ticket 0 has no place to free
-abbrev pub collect : ℕ → JobView → JobView × Result (Unit {0}) Refusal
+abbrev pub collect : ℕ → JobView → JobView × Result ⊤ Refusal
 collect ticket v = cond (ticket == 0) (v, Ok tt) (collected (looked v.closed (found ticket v.mailbox.table)) ticket v)
 
 -- STEPS

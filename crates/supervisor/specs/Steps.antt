@@ -1,9 +1,10 @@
 -- What a call leaves of a job, and what a step leaves of a job, its host, its terminal and the sheet.
 use Rattle.std.specs.Prelude.{◌≡◌, ℕ, ◌≤◌, List, length, Some, None, Ok, Err, Result}
 use Rattle.host.specs.declared.journal.Record.{Record}
-use Rattle.host.specs.Calls.{HostCall, HostReply, TerminalCall, TerminalReply}
+use Rattle.host.specs.declared.process.Host as Host
+use Rattle.host.specs.declared.terminal.Terminal as Terminal
 use Rattle.host.specs.Interaction.{Interaction, World}
-use Rattle.host.specs.Books.{HostBook, TerminalBook, host_along, terminal_along, spawns_in}
+use Rattle.host.specs.Books.{host_along, terminal_along, spawns_in}
 use Rattle.supervisor.specs.declared.errors.Refusal.{Refusal}
 use Rattle.supervisor.specs.declared.answers.Stepped.{Stepped}
 use Rattle.supervisor.specs.declared.job.Job.{Job}
@@ -36,13 +37,13 @@ stepping j s = record { view = job_view j; progress = s.progress; ordered = s.or
 -- An accepted step led from the moment a to the moment b and answered s: the calls that were made, with their arguments and
 -- answers, are a trace of its tree; the job is what the tree ends with; the sheet holds the trace's records from its first place
 -- on, and behind them what it held; the books moved along the trace; at most one start was tried.
-pub record Accepted {H T : Type 0} (hd : H → (c : HostCall) → HostReply c → H → Type 0) (td : T → (c : TerminalCall) → TerminalReply c → T → Type 0) (hb : H → HostBook) (tb : T → TerminalBook) (tree : Interaction Stepping) (a : Moment H T) (s : Stepped) (b : Moment H T) : Type 0 where
-  pub conducts : Conducts hd td tree (world_at a) a.sheet (stepping b.job s) s.records (world_at b) b.sheet
-  pub host_book : hb b.host ≡ host_along (hb a.host) conducts.trace
-  pub terminal_book : tb b.terminal ≡ terminal_along (tb a.terminal) conducts.trace
+pub record Accepted {H T : Type 0} (by_host : Host.Ghosts H) (by_terminal : Terminal.Ghosts T) (tree : Interaction Stepping) (a : Moment H T) (s : Stepped) (b : Moment H T) : Type 0 where
+  pub conducts : Conducts by_host by_terminal tree (world_at a) a.sheet (stepping b.job s) s.records (world_at b) b.sheet
+  pub host_book : by_host.book b.host ≡ host_along (by_host.book a.host) conducts.trace
+  pub terminal_book : by_terminal.book b.terminal ≡ terminal_along (by_terminal.book a.terminal) conducts.trace
   pub starts : spawns_in conducts.trace ≤ 1
 
 -- a step is refused and changes nothing, or is accepted
-abbrev pub Steps : {H T : Type 0} (hd : H → (c : HostCall) → HostReply c → H → Type 0) (td : T → (c : TerminalCall) → TerminalReply c → T → Type 0) (hb : H → HostBook) (tb : T → TerminalBook) → (ℕ → JobView → Interaction Stepping) → ℕ → Moment H T → Result Stepped Refusal → Moment H T → Type 0
-Steps hd td hb tb tree time a (Err r) b = (step_refusal time (length a.sheet) (job_view a.job) ≡ Some r) × (b ≡ a)
-Steps hd td hb tb tree time a (Ok s) b = (step_refusal time (length a.sheet) (job_view a.job) ≡ None) × Accepted hd td hb tb (tree time (job_view a.job)) a s b
+abbrev pub Steps : {H T : Type 0} (by_host : Host.Ghosts H) (by_terminal : Terminal.Ghosts T) → (ℕ → JobView → Interaction Stepping) → ℕ → Moment H T → Result Stepped Refusal → Moment H T → Type 0
+Steps by_host by_terminal tree time a (Err r) b = (step_refusal time (length a.sheet) (job_view a.job) ≡ Some r) × (b ≡ a)
+Steps by_host by_terminal tree time a (Ok s) b = (step_refusal time (length a.sheet) (job_view a.job) ≡ None) × Accepted by_host by_terminal (tree time (job_view a.job)) a s b

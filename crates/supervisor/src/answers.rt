@@ -3,24 +3,24 @@ ghost use Rattle.std.specs.Prelude.{◌≡◌};
 ghost use Rattle.supervisor.specs.Answers.{progress_number};
 
 // What a step did: nothing, something, or it closed the job.
-#[derive(Clone, Copy, PartialEq, Eq)]
+#[derive(Clone, Copy, Debug, PartialEq, Eq)]
 pub enum Progress {
     Idle = 0,
     Handled = 1,
     Closed = 2,
 }
 
-impl Progress {
-    // The number that it is written with.
-    pub fn number(self) -> u8
-        ensures { result ≡ progress_number self }
-    {
-        self as u8
+// The number that it is written with.
+impl From<Progress> for u8 {
+    ghost from_gives = { λ progress number. number ≡ progress_number progress };
+
+    fn from(progress: Progress) -> u8 {
+        progress as u8
     }
 }
 
 // The answer of a step that was accepted.
-#[derive(Clone, Copy)]
+#[derive(Clone, Copy, Debug, PartialEq, Eq)]
 pub struct Stepped {
     pub progress: Progress,
     // How many records it wrote, from the first place of the sheet on.

@@ -1,13 +1,15 @@
 // Examples of what a job answers, on a host that has no room for a child.
-ghost use Rattle.std.specs.Prelude.{[]};
-ghost use Rattle.host.specs.Books.{HostKeeps, TerminalKeeps};
+ghost use Rattle.std.specs.Prelude.{◌≡◌, [], Err};
+ghost use Rattle.host.specs.Books.{HostKeeps, TerminalKeeps, next_count};
+ghost use Rattle.host.specs.Fault.{fault};
 ghost use Rattle.std.proofs.Common.{rules};
 
 use crate::answers::Progress;
 use crate::errors::Refusal;
 use crate::job::Job;
 use host::command::SpawnOptions;
-use host::journal::{Answer, CallKind, Record};
+use host::fault::Fault;
+use host::journal::Record;
 use host::process::Host;
 use host::state::{CommandState, ProcessEnd};
 use host::terminal::Terminal;
@@ -18,6 +20,23 @@ use std::test::Fail;
 struct NoRoom {
     served: u64,
     spawns: u64,
+}
+
+impl NoRoom {
+    fn count(&mut self)
+        ensures { self.new ≡ record { served = next_count self.old.served; spawns = self.old.spawns } }
+    {
+        self.served = self.served.wrapping_add(1);
+    }
+
+    // A counted call that names a child, none of which is on the roster.
+    fn no_child<A>(&mut self) -> Result<A, Fault>
+        ensures answer { result ≡ Err (fault 10) }
+        ensures counted { self.new ≡ record { served = next_count self.old.served; spawns = self.old.spawns } }
+    {
+        self.count();
+        Err(Fault::NO_CHILD)
+    }
 }
 
 impl Host for NoRoom {
@@ -47,39 +66,34 @@ impl Host for NoRoom {
         _options: SpawnOptions,
         _way: u8,
         _time: u64,
-    ) -> Result<u32, u16> {
-        self.served = self.served.wrapping_add(1);
+    ) -> Result<u32, Fault> {
+        self.count();
         self.spawns = self.spawns.wrapping_add(1);
-        Err(11)
+        Err(Fault::NO_ROOM)
     }
 
-    fn poll(&mut self, _child: u32) -> Result<Option<ProcessEnd>, u16> {
-        self.served = self.served.wrapping_add(1);
-        Err(10)
+    fn poll(&mut self, _child: u32) -> Result<Option<ProcessEnd>, Fault> {
+        self.no_child()
     }
 
-    fn wait(&mut self, _child: u32) -> Result<ProcessEnd, u16> {
-        self.served = self.served.wrapping_add(1);
-        Err(10)
+    fn wait(&mut self, _child: u32) -> Result<ProcessEnd, Fault> {
+        self.no_child()
     }
 
-    fn kill(&mut self, _child: u32) -> Result<(), u16> {
-        self.served = self.served.wrapping_add(1);
-        Err(10)
+    fn kill(&mut self, _child: u32) -> Result<(), Fault> {
+        self.no_child()
     }
 
-    fn signal(&mut self, _child: u32, _signal: u8) -> Result<(), u16> {
-        self.served = self.served.wrapping_add(1);
-        Err(10)
+    fn signal(&mut self, _child: u32, _signal: u8) -> Result<(), Fault> {
+        self.no_child()
     }
 
-    fn cont(&mut self, _child: u32) -> Result<(), u16> {
-        self.served = self.served.wrapping_add(1);
-        Err(10)
+    fn cont(&mut self, _child: u32) -> Result<(), Fault> {
+        self.no_child()
     }
 
     fn let_go(&mut self, _child: u32) {
-        self.served = self.served.wrapping_add(1);
+        self.count();
     }
 
     fn hook(
@@ -87,9 +101,9 @@ impl Host for NoRoom {
         _number: u8,
         _state: CommandState,
         _previous: Option<CommandState>,
-    ) -> Result<SpawnOptions, u16> {
-        self.served = self.served.wrapping_add(1);
-        Err(1)
+    ) -> Result<SpawnOptions, Fault> {
+        self.count();
+        Err(Fault { code: 1 })
     }
 
     fn routine(
@@ -97,13 +111,13 @@ impl Host for NoRoom {
         _number: u8,
         _state: CommandState,
         _previous: Option<CommandState>,
-    ) -> Result<(), u16> {
-        self.served = self.served.wrapping_add(1);
+    ) -> Result<(), Fault> {
+        self.count();
         Ok(())
     }
 
-    fn tell(&mut self, _handler: u8, _code: u16) -> Result<(), u16> {
-        self.served = self.served.wrapping_add(1);
+    fn tell(&mut self, _handler: u8, _fault: Fault) -> Result<(), Fault> {
+        self.count();
         Ok(())
     }
 }
@@ -132,9 +146,9 @@ impl Terminal for NoTerminal {
         0
     }
 
-    fn acquire(&mut self, _group: u32) -> Result<(), u16> {
+    fn acquire(&mut self, _group: u32) -> Result<(), Fault> {
         self.served = self.served.wrapping_add(1);
-        Err(6)
+        Err(Fault::NO_TERMINAL)
     }
 
     fn release(&mut self) {
@@ -142,66 +156,31 @@ impl Terminal for NoTerminal {
     }
 }
 
-const BLANK: Record = Record {
-    call: CallKind::Release,
-    child: 0,
-    number: 0,
-    answer: Answer::Nothing,
-};
-
-// A control step at a time, with a sheet of 8 places.
+// The records of a control step at a time, with a sheet of 8 places.
 fn step(job: &mut Job, time: u64) -> Result<usize, Refusal> {
     let mut host = NoRoom {
         served: 0,
         spawns: 0,
     };
     let mut terminal = NoTerminal { served: 0 };
-    let mut sheet = [BLANK; 8];
-    match job.control_step(&mut host, &mut terminal, &mut sheet, time) {
-        Ok(done) => Ok(done.records),
-        Err(refusal) => Err(refusal),
-    }
+    let mut sheet = [Record::BLANK; 8];
+    let done = job.control_step(&mut host, &mut terminal, &mut sheet, time)?;
+    Ok(done.records)
 }
 
-fn is_refused<X: Drop>(answer: Result<X, Refusal>, number: u8) -> bool {
-    match answer {
-        Ok(_) => false,
-        Err(refusal) => refusal.number() == number,
-    }
-}
-
-fn is_granted(answer: Result<u32, Refusal>, ticket: u32) -> bool {
-    match answer {
-        Ok(given) => given == ticket,
-        Err(_) => false,
-    }
-}
-
-fn is_done(answer: Result<bool, Refusal>, done: bool) -> bool {
-    match answer {
-        Ok(is) => is == done,
-        Err(_) => false,
-    }
-}
-
-fn records(answer: Result<usize, Refusal>, count: usize) -> bool {
-    match answer {
-        Ok(n) => n == count,
-        Err(_) => false,
-    }
+// The number of a refusal; none where the call was not refused.
+fn refusal<X: Drop>(answer: Result<X, Refusal>) -> Option<u8> {
+    answer.err().map(u8::from)
 }
 
 fn fresh() -> Result<Job, Fail> {
-    match Job::new(1, 0) {
-        Ok(job) => Ok(job),
-        Err(_) => Err(Fail::new("no job")),
-    }
+    Job::new(1, 0).map_err(|_| Fail::new("no job"))
 }
 
 #[test]
 fn a_job_is_made_of_fitting_numbers(rt: HostRuntime) {
-    assert!(rt; is_refused(Job::new(0, 0), 6));
-    assert!(rt; is_refused(Job::new(1, 16), 6));
+    assert_eq!(rt; refusal(Job::new(0, 0)), Some(6));
+    assert_eq!(rt; refusal(Job::new(1, 16)), Some(6));
     assert!(rt; Job::new(255, 15).is_ok());
 }
 
@@ -209,10 +188,10 @@ fn a_job_is_made_of_fitting_numbers(rt: HostRuntime) {
 fn a_full_queue_takes_no_more(rt: HostRuntime) -> Result<(), Fail> {
     let mut job = fresh()?;
     for i in 0..128u32 {
-        assert!(rt; is_granted(job.start(), i + 1));
+        assert_eq!(rt; job.start(), Ok(i + 1));
     }
-    assert!(rt; is_refused(job.start(), 7));
-    assert!(rt; is_granted(job.to_wait(), 129));
+    assert_eq!(rt; refusal(job.start()), Some(7));
+    assert_eq!(rt; job.to_wait(), Ok(129));
     Ok(())
 }
 
@@ -226,10 +205,10 @@ fn a_full_table_gives_no_more_tickets(rt: HostRuntime) -> Result<(), Fail> {
     for _ in 0..127 {
         assert!(rt; job.start().is_ok());
     }
-    assert!(rt; is_granted(job.to_wait(), 256));
-    assert!(rt; is_refused(job.start(), 8));
+    assert_eq!(rt; job.to_wait(), Ok(256));
+    assert_eq!(rt; refusal(job.start()), Some(8));
     assert!(rt; job.collect(1).is_ok());
-    assert!(rt; is_granted(job.start(), 257));
+    assert_eq!(rt; job.start(), Ok(257));
     Ok(())
 }
 
@@ -241,9 +220,12 @@ fn a_sheet_of_seven_is_too_short(rt: HostRuntime) -> Result<(), Fail> {
         spawns: 0,
     };
     let mut terminal = NoTerminal { served: 0 };
-    let mut seven = [BLANK; 7];
-    let mut eight = [BLANK; 8];
-    assert!(rt; is_refused(job.control_step(&mut host, &mut terminal, &mut seven, 0), 2));
+    let mut seven = [Record::BLANK; 7];
+    let mut eight = [Record::BLANK; 8];
+    assert_eq!(rt;
+        refusal(job.control_step(&mut host, &mut terminal, &mut seven, 0)),
+        Some(2)
+    );
     assert!(rt;
         job.control_step(&mut host, &mut terminal, &mut eight, 0)
             .is_ok()
@@ -255,9 +237,9 @@ fn a_sheet_of_seven_is_too_short(rt: HostRuntime) -> Result<(), Fail> {
 fn the_clock_does_not_go_back(rt: HostRuntime) -> Result<(), Fail> {
     let mut job = fresh()?;
     assert!(rt; step(&mut job, 5).is_ok());
-    assert!(rt; is_refused(step(&mut job, 4), 3));
+    assert_eq!(rt; refusal(step(&mut job, 4)), Some(3));
     assert!(rt; step(&mut job, 5).is_ok());
-    assert!(rt; is_refused(step(&mut job, (1 << 62) + 1), 3));
+    assert_eq!(rt; refusal(step(&mut job, (1 << 62) + 1)), Some(3));
     assert!(rt; step(&mut job, 1 << 62).is_ok());
     Ok(())
 }
@@ -265,16 +247,16 @@ fn the_clock_does_not_go_back(rt: HostRuntime) -> Result<(), Fail> {
 #[test]
 fn a_ticket_is_done_once_it_is_raised_and_collected_once(rt: HostRuntime) -> Result<(), Fail> {
     let mut job = fresh()?;
-    assert!(rt; is_refused(job.look(1), 11));
-    assert!(rt; is_granted(job.start(), 1));
-    assert!(rt; is_done(job.look(1), false));
-    assert!(rt; is_refused(job.collect(1), 12));
+    assert_eq!(rt; refusal(job.look(1)), Some(11));
+    assert_eq!(rt; job.start(), Ok(1));
+    assert_eq!(rt; job.look(1), Ok(false));
+    assert_eq!(rt; refusal(job.collect(1)), Some(12));
     assert!(rt; step(&mut job, 0).is_ok());
-    assert!(rt; is_done(job.look(1), true));
+    assert_eq!(rt; job.look(1), Ok(true));
     assert!(rt; job.collect(1).is_ok());
-    assert!(rt; is_refused(job.look(1), 11));
-    assert!(rt; is_refused(job.collect(1), 11));
-    assert!(rt; is_done(job.look(0), true));
+    assert_eq!(rt; refusal(job.look(1)), Some(11));
+    assert_eq!(rt; refusal(job.collect(1)), Some(11));
+    assert_eq!(rt; job.look(0), Ok(true));
     assert!(rt; job.collect(0).is_ok());
     Ok(())
 }
@@ -283,10 +265,10 @@ fn a_ticket_is_done_once_it_is_raised_and_collected_once(rt: HostRuntime) -> Res
 fn a_spawn_fault_is_told_to_a_handler(rt: HostRuntime) -> Result<(), Fail> {
     let mut job = fresh()?;
     assert!(rt; job.start().is_ok());
-    assert!(rt; records(step(&mut job, 0), 1));
+    assert_eq!(rt; step(&mut job, 0), Ok(1));
     job.set_handler(7);
     assert!(rt; job.start().is_ok());
-    assert!(rt; records(step(&mut job, 1), 2));
+    assert_eq!(rt; step(&mut job, 1), Ok(2));
     assert!(rt; job.state().is_pending());
     Ok(())
 }

@@ -1,5 +1,7 @@
 -- A grant is held only while a child runs, whatever host and terminal answer.
 use Rattle.std.proofs.Common.{◌≡◌, ℕ, Bool, true, false, Some, None, Ok, Err, Option, Result, sym, refl, ◌∙◌, arith}
+use Rattle.std.specs.Prelude.{⊤}
+use Rattle.host.specs.declared.fault.Fault.{Fault}
 use Rattle.host.specs.declared.state.ProcessEnd.{ProcessEnd}
 use Rattle.host.specs.declared.state.CommandState.{CommandState}
 use Rattle.host.specs.declared.state.CommandState.TheVariants.{Pending, Running, Finished}
@@ -34,17 +36,17 @@ idle_free t h i = by t.foreground.grant refl
 reported-keeps : (part : Part) → Always (λ x. Free x.0) part → Always (λ x. Free x.0) (Tree.reported part)
 reported-keeps part h = always_then _ _ part _ h (λ x f. by x x.0.settings.handler x.1 f)
   where
-    by : (x : TaskView × Result (Unit {0}) ℕ) (n : Option ℕ) (r : Result (Unit {0}) ℕ) → Free x.0 → Always (λ y. Free y.0) (bind (Tree.told n r) (λ _. done x))
+    by : (x : TaskView × Result ⊤ Fault) (n : Option ℕ) (r : Result ⊤ Fault) → Free x.0 → Always (λ y. Free y.0) (bind (Tree.told n r) (λ _. done x))
     by x n (Ok u) f = f
-    by x None (Err code) f = f
-    by x (Some n) (Err code) f = λ _. f
+    by x None (Err fault) f = f
+    by x (Some n) (Err fault) f = λ _. f
 
 launch-keeps : (time : ℕ) (t : TaskView) → Free t → Always (λ x. Free x.0) (Tree.launch time t)
 launch-keeps time t f = hooks t.settings.hook
   where
-    spawns : (a : Result ℕ ℕ) → Free (Tree.spawned time (Tree.reset time t) a).0
+    spawns : (a : Result ℕ Fault) → Free (Tree.spawned time (Tree.reset time t) a).0
     spawns (Ok child) = f
-    spawns (Err code) = f
+    spawns (Err fault) = f
 
     hooks : (n : Option ℕ) → Always (λ x. Free x.0) (bind (Tree.hooked n (Tree.reset time t)) (Tree.spawn time (Tree.reset time t)))
     hooks None = λ a. spawns a
@@ -53,13 +55,13 @@ launch-keeps time t f = hooks t.settings.hook
 force_keeps : (child began time : ℕ) (t : TaskView) → Free t → Always (λ x. Free x.0) (Tree.end_by_force child began time t)
 force_keeps child began time t f = λ a. kills a
   where
-    waits : (a : Result ProcessEnd ℕ) → Free (Tree.waited began time t a).0
+    waits : (a : Result ProcessEnd Fault) → Free (Tree.waited began time t a).0
     waits (Ok end) = f
-    waits (Err code) = f
+    waits (Err fault) = f
 
-    kills : (a : Result (Unit {0}) ℕ) → Always (λ x. Free x.0) (Tree.killed child began time t a)
+    kills : (a : Result ⊤ Fault) → Always (λ x. Free x.0) (Tree.killed child began time t a)
     kills (Ok u) = λ a. waits a
-    kills (Err code) = f
+    kills (Err fault) = f
 
 yield_frees : (t : TaskView) → Always Free (Tree.yield t)
 yield_frees t = by t.foreground.grant
@@ -83,10 +85,10 @@ control_granted Start time t h = by (is_running t.state) refl
     by false e =
         always_then (λ x. Free x.0) _ (Tree.reported (Tree.launch time t)) _ (reported-keeps (Tree.launch time t) (launch-keeps time t (idle_free t h e))) (λ x f. free_granted x.0 f)
 control_granted Stop time t h =
-    always_then (λ _. Unit {0}) _ (Tree.resume t) _ (resumes t.foreground.paused t.state)
+    always_then (λ _. ⊤) _ (Tree.resume t) _ (resumes t.foreground.paused t.state)
     (λ t₁ _. always_then Free _ (Tree.yield t₁) _ (yield_frees t₁) (λ t₂ f. weaken t₂ f))
   where
-    resumes : (p : Option ℕ) (s : CommandState) → Always (λ _. Unit {0}) (Tree.resumed p s t)
+    resumes : (p : Option ℕ) (s : CommandState) → Always (λ _. ⊤) (Tree.resumed p s t)
     resumes None s = tt
     resumes (Some p) Pending = tt
     resumes (Some p) (Running child began) = λ _. tt
@@ -104,14 +106,14 @@ control_granted NextEnding time t h = h
 pub poll_granted : (time : ℕ) (t : TaskView) → Granted t → Always (λ (x : TaskView × PollOutcome). Granted x.0) (Tree.poll_child time t)
 poll_granted time t h = by t.state
   where
-    tells : (code : ℕ) (n : Option ℕ) → Always (λ (x : TaskView × PollOutcome). Granted x.0) (bind (Tree.told n (Err code)) (λ _. done (t, Faulted)))
-    tells code None = h
-    tells code (Some n) = λ _. h
+    tells : (fault : Fault) (n : Option ℕ) → Always (λ (x : TaskView × PollOutcome). Granted x.0) (bind (Tree.told n (Err fault)) (λ _. done (t, Faulted)))
+    tells fault None = h
+    tells fault (Some n) = λ _. h
 
-    polls : (began : ℕ) (a : Result (Option ProcessEnd) ℕ) → Always (λ (x : TaskView × PollOutcome). Granted x.0) (Tree.polled began time t a)
+    polls : (began : ℕ) (a : Result (Option ProcessEnd) Fault) → Always (λ (x : TaskView × PollOutcome). Granted x.0) (Tree.polled began time t a)
     polls began (Ok None) = h
     polls began (Ok (Some end)) = always_then Free _ (Tree.yield (Tree.in_state (Finished end began time) t)) _ (yield_frees (Tree.in_state (Finished end began time) t)) (λ t₁ f. free_granted t₁ f)
-    polls began (Err code) = tells code t.settings.handler
+    polls began (Err fault) = tells fault t.settings.handler
 
     by : (s : CommandState) → Always (λ (x : TaskView × PollOutcome). Granted x.0) (Tree.poll_in s time t)
     by Pending = h

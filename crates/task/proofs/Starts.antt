@@ -1,5 +1,7 @@
 -- How many starts a control and a poll try: at most one, whatever is answered.
 use Rattle.std.proofs.Common.{ℕ, ◌+◌, ◌≤◌, Bool, true, false, List, Some, None, Ok, Err, Option, Result, ap, arith}
+use Rattle.std.specs.Prelude.{⊤}
+use Rattle.host.specs.declared.fault.Fault.{Fault}
 use Rattle.host.specs.declared.state.ProcessEnd.{ProcessEnd}
 use Rattle.host.specs.declared.state.CommandState.{CommandState}
 use Rattle.host.specs.declared.state.CommandState.TheVariants.{Pending, Running, Finished}
@@ -14,7 +16,7 @@ use Rattle.task.specs.Task.{TaskView, Part}
 
 -- at most n starts are tried in a tree
 abbrev pub Few : {A : Type 0} → ℕ → Interaction A → Type 0
-Few n (done x) = Unit {0}
+Few n (done x) = ⊤
 Few n (ask c k) = (m : ℕ) × (is_spawn c + m ≤ n) × ((a : Reply c) → Few m (k a))
 
 more : {A : Type 0} (t : Interaction A) (m n : ℕ) → m ≤ n → Few m t → Few n t
@@ -33,10 +35,10 @@ few_tried did n (ask c k) s s' p x h r =
 -- PARTS
 
 -- one call that is no spawn, and then nothing more is tried
-told_few : (n : Option ℕ) (r : Result (Unit {0}) ℕ) → Few 0 (Tree.told n r)
+told_few : (n : Option ℕ) (r : Result ⊤ Fault) → Few 0 (Tree.told n r)
 told_few n (Ok u) = tt
-told_few None (Err code) = tt
-told_few (Some n) (Err code) = (0, omega arith, λ _. tt)
+told_few None (Err fault) = tt
+told_few (Some n) (Err fault) = (0, omega arith, λ _. tt)
 
 reported_few : (n : ℕ) (part : Part) → Few n part → Few (n + (0 + 0)) (Tree.reported part)
 reported_few n part h = few_then n (0 + 0) part _ h (λ x. few_then 0 0 (Tree.told x.0.settings.handler x.1) _ (told_few x.0.settings.handler x.1) (λ _. tt))
@@ -51,9 +53,9 @@ launch_few time t = few_then 0 1 (Tree.spawn_options (Tree.reset time t)) (Tree.
 force_few : (child began time : ℕ) (t : TaskView) → Few 0 (Tree.end_by_force child began time t)
 force_few child began time t = (0, omega arith, λ a. kills a)
   where
-    kills : (a : Result (Unit {0}) ℕ) → Few 0 (Tree.killed child began time t a)
+    kills : (a : Result ⊤ Fault) → Few 0 (Tree.killed child began time t a)
     kills (Ok u) = (0, omega arith, λ _. tt)
-    kills (Err code) = tt
+    kills (Err fault) = tt
 
 resume_few : (t : TaskView) → Few 0 (Tree.resume t)
 resume_few t = by t.foreground.paused t.state
@@ -91,10 +93,10 @@ control_few NextEnding time t = tt
 pub poll_few : (time : ℕ) (t : TaskView) → Few 1 (Tree.poll_child time t)
 poll_few time t = by t.state
   where
-    polls : (began : ℕ) (a : Result (Option ProcessEnd) ℕ) → Few 1 (Tree.polled began time t a)
+    polls : (began : ℕ) (a : Result (Option ProcessEnd) Fault) → Few 1 (Tree.polled began time t a)
     polls began (Ok None) = tt
     polls began (Ok (Some end)) = few_then 0 1 (Tree.yield (Tree.in_state (Finished end began time) t)) _ (yield_few (Tree.in_state (Finished end began time) t)) (λ _. tt)
-    polls began (Err code) = few_then 0 1 (Tree.told t.settings.handler (Err code)) _ (told_few t.settings.handler (Err code)) (λ _. tt)
+    polls began (Err fault) = few_then 0 1 (Tree.told t.settings.handler (Err fault)) _ (told_few t.settings.handler (Err fault)) (λ _. tt)
 
     by : (s : CommandState) → Few 1 (Tree.poll_in s time t)
     by Pending = tt

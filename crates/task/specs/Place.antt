@@ -1,7 +1,9 @@
 -- A host and a terminal with the sheet that their calls are recorded on, and how one call moves them.
 use Rattle.std.specs.Prelude.{◌≡◌, ℕ, ◌+◌, List, slice_set}
 use Rattle.host.specs.declared.journal.Record.{Record}
-use Rattle.host.specs.Calls.{HostCall, HostReply, TerminalCall, TerminalReply, Call, Reply, Event}
+use Rattle.host.specs.declared.process.Host as Host
+use Rattle.host.specs.declared.terminal.Terminal as Terminal
+use Rattle.host.specs.Calls.{Call, Reply, Event}
 use Rattle.host.specs.Interaction.{Interaction, Traces, World, Answered}
 use Rattle.host.specs.Journal.{record_of}
 
@@ -16,10 +18,10 @@ abbrev pub world : {H T : Type 0} → Place H T → World H T
 world s = record { host = s.host; terminal = s.terminal }
 
 -- the call is answered, and recorded with its answer in the next place of the sheet
-abbrev pub Asked : {H T : Type 0} (hd : H → (c : HostCall) → HostReply c → H → Type 0) (td : T → (c : TerminalCall) → TerminalReply c → T → Type 0) → Place H T → (c : Call) → Reply c → Place H T → Type 0
-Asked hd td s c a m = Answered hd td (world s) c a (world m) × (m.sheet ≡ slice_set s.sheet s.used (record_of c a)) × (m.used ≡ s.used + 1)
+abbrev pub Asked : {H T : Type 0} (by_host : Host.Ghosts H) (by_terminal : Terminal.Ghosts T) → Place H T → (c : Call) → Reply c → Place H T → Type 0
+Asked by_host by_terminal s c a m = Answered by_host by_terminal (world s) c a (world m) × (m.sheet ≡ slice_set s.sheet s.used (record_of c a)) × (m.used ≡ s.used + 1)
 
 -- the tree t was run from the place s to the place s' and ended with x
-pub record Ran {H T A : Type 0} (hd : H → (c : HostCall) → HostReply c → H → Type 0) (td : T → (c : TerminalCall) → TerminalReply c → T → Type 0) (t : Interaction A) (s : Place H T) (x : A) (s' : Place H T) : Type 0 where
+pub record Ran {H T A : Type 0} (by_host : Host.Ghosts H) (by_terminal : Terminal.Ghosts T) (t : Interaction A) (s : Place H T) (x : A) (s' : Place H T) : Type 0 where
   pub trace : List Event
-  pub traces : Traces (Asked hd td) t s trace x s'
+  pub traces : Traces (Asked by_host by_terminal) t s trace x s'

@@ -1,5 +1,6 @@
 -- The task of a job: its parts, its controls and its poll of the child, as interaction trees.
-use Rattle.std.specs.Prelude.{◌≡◌, ℕ, Bool, true, false, List, [], Some, None, Ok, Err, Option, Result}
+use Rattle.std.specs.Prelude.{◌≡◌, ℕ, Bool, true, false, List, [], Some, None, Ok, Err, Option, Result, ⊤}
+use Rattle.host.specs.declared.fault.Fault.{Fault}
 use Rattle.host.specs.declared.command.SpawnOptions.{SpawnOptions}
 use Rattle.host.specs.declared.command.Command.{Command}
 use Rattle.host.specs.declared.state.ProcessEnd.{ProcessEnd}
@@ -40,9 +41,9 @@ with_foreground f t = record { command = t.command; settings = t.settings; state
 
 -- PARTS
 
--- a part ends with nothing, or with the code of a fault
+-- a part ends with nothing, or with a fault
 abbrev pub Part : Type 0
-Part = Interaction (TaskView × Result (Unit {0}) ℕ)
+Part = Interaction (TaskView × Result ⊤ Fault)
 
 -- Resume: a paused signal is forgotten, and the child, if one runs, is continued; a fault is ignored.
 
@@ -72,13 +73,13 @@ yield t = yielded t.foreground.grant t
 
 -- End by force: kill, then wait; the child has then finished. A fault leaves it running.
 
-abbrev pub waited : ℕ → ℕ → TaskView → Result ProcessEnd ℕ → TaskView × Result (Unit {0}) ℕ
+abbrev pub waited : ℕ → ℕ → TaskView → Result ProcessEnd Fault → TaskView × Result ⊤ Fault
 waited started time t (Ok end) = (in_state (Finished end started time) t, Ok tt)
-waited started time t (Err code) = (t, Err code)
+waited started time t (Err fault) = (t, Err fault)
 
-abbrev pub killed : ℕ → ℕ → ℕ → TaskView → Result (Unit {0}) ℕ → Part
+abbrev pub killed : ℕ → ℕ → ℕ → TaskView → Result ⊤ Fault → Part
 killed child started time t (Ok u) = bind (call (to_host (Calls.wait child))) (λ a. done (waited started time t a))
-killed child started time t (Err code) = done (t, Err code)
+killed child started time t (Err fault) = done (t, Err fault)
 
 abbrev pub end_by_force : ℕ → ℕ → ℕ → TaskView → Part
 end_by_force child started time t = bind (call (to_host (Calls.kill child))) (killed child started time t)
@@ -90,9 +91,9 @@ end_by_force child started time t = bind (call (to_host (Calls.kill child))) (ki
 abbrev pub reset : ℕ → TaskView → TaskView
 reset time t = record { command = t.command; settings = t.settings; state = Pending; previous = Some (kept time t.state); foreground = t.foreground }
 
-abbrev pub or_else : SpawnOptions → Result SpawnOptions ℕ → SpawnOptions
+abbrev pub or_else : SpawnOptions → Result SpawnOptions Fault → SpawnOptions
 or_else options (Ok o) = o
-or_else options (Err code) = options
+or_else options (Err fault) = options
 
 abbrev pub hooked : Option ℕ → TaskView → Interaction SpawnOptions
 hooked None t = done t.command.options
@@ -104,9 +105,9 @@ spawn_options t = hooked t.settings.hook t
 abbrev pub started : ℕ → ℕ → TaskView → TaskView
 started child time t = with_foreground (record { paused = None; pauses = []; watch = t.command.options.grant_foreground; grant = t.foreground.grant }) (in_state (Running child time) t)
 
-abbrev pub spawned : ℕ → TaskView → Result ℕ ℕ → TaskView × Result (Unit {0}) ℕ
+abbrev pub spawned : ℕ → TaskView → Result ℕ Fault → TaskView × Result ⊤ Fault
 spawned time t (Ok child) = (started child time t, Ok tt)
-spawned time t (Err code) = (t, Err code)
+spawned time t (Err fault) = (t, Err fault)
 
 abbrev pub spawn : ℕ → TaskView → SpawnOptions → Part
 spawn time t options = bind (call (to_host (Calls.spawn t.command.program options t.settings.way time))) (λ a. done (spawned time t a))
@@ -116,10 +117,10 @@ launch time t = bind (spawn_options (reset time t)) (spawn time (reset time t))
 
 -- A fault is told to the handler, if one is set; a fault of telling is ignored.
 
-abbrev pub told : Option ℕ → Result (Unit {0}) ℕ → Interaction (Unit {0})
+abbrev pub told : Option ℕ → Result ⊤ Fault → Interaction ⊤
 told handler (Ok u) = done tt
-told None (Err code) = done tt
-told (Some n) (Err code) = bind (call (to_host (Calls.tell n code))) (λ _. done tt)
+told None (Err fault) = done tt
+told (Some n) (Err fault) = bind (call (to_host (Calls.tell n fault))) (λ _. done tt)
 
 abbrev pub reported : Part → Part
 reported part = bind part (λ x. bind (told x.0.settings.handler x.1) (λ _. done x))
@@ -138,9 +139,9 @@ abbrev pub start_unless : Bool → ℕ → TaskView → Course
 start_unless true time t = done (t, Settled)
 start_unless false time t = launched time Settled t
 
-abbrev pub forced : Result (Unit {0}) ℕ → Outcome
+abbrev pub forced : Result ⊤ Fault → Outcome
 forced (Ok u) = Ended
-forced (Err code) = Settled
+forced (Err fault) = Settled
 
 abbrev pub stop_in : CommandState → ℕ → TaskView → Course
 stop_in Pending time t = done (t, Settled)
@@ -161,10 +162,10 @@ control NextEnding time t = done (t, joins t.state)
 -- THE POLL OF THE CHILD
 
 -- a child that ended has finished, and the terminal is yielded; a fault is told
-abbrev pub polled : ℕ → ℕ → TaskView → Result (Option ProcessEnd) ℕ → Interaction (TaskView × PollOutcome)
+abbrev pub polled : ℕ → ℕ → TaskView → Result (Option ProcessEnd) Fault → Interaction (TaskView × PollOutcome)
 polled began time t (Ok None) = done (t, Idle)
 polled began time t (Ok (Some end)) = bind (yield (in_state (Finished end began time) t)) (λ t₁. done (t₁, Over))
-polled began time t (Err code) = bind (told t.settings.handler (Err code)) (λ _. done (t, Faulted))
+polled began time t (Err fault) = bind (told t.settings.handler (Err fault)) (λ _. done (t, Faulted))
 
 abbrev pub poll_in : CommandState → ℕ → TaskView → Interaction (TaskView × PollOutcome)
 poll_in Pending time t = done (t, Idle)

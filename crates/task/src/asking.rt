@@ -7,12 +7,13 @@ ghost use Rattle.task.specs.Performs.{Performs};
 
 use crate::outside::Outside;
 use host::command::SpawnOptions;
+use host::fault::Fault;
 use host::journal::{Answer, CallKind, Record};
 use host::process::Host;
 use host::state::{CommandState, ProcessEnd};
 use host::terminal::Terminal;
 
-fn plain_answer(answer: Result<(), u16>) -> Answer
+fn plain_answer(answer: Result<(), Fault>) -> Answer
     ensures { result ≡ Journal.or_fault Journal.nothing answer }
 {
     match answer {
@@ -21,7 +22,7 @@ fn plain_answer(answer: Result<(), u16>) -> Answer
     }
 }
 
-fn child_answer(answer: Result<u32, u16>) -> Answer
+fn child_answer(answer: Result<u32, Fault>) -> Answer
     ensures { result ≡ Journal.or_fault Answer.Child answer }
 {
     match answer {
@@ -30,7 +31,7 @@ fn child_answer(answer: Result<u32, u16>) -> Answer
     }
 }
 
-fn end_answer(answer: Result<ProcessEnd, u16>) -> Answer
+fn end_answer(answer: Result<ProcessEnd, Fault>) -> Answer
     ensures { result ≡ Journal.or_fault Answer.End answer }
 {
     match answer {
@@ -39,7 +40,7 @@ fn end_answer(answer: Result<ProcessEnd, u16>) -> Answer
     }
 }
 
-fn poll_answer(answer: Result<Option<ProcessEnd>, u16>) -> Answer
+fn poll_answer(answer: Result<Option<ProcessEnd>, Fault>) -> Answer
     ensures { result ≡ Journal.or_fault Journal.end_or_nothing answer }
 {
     match answer {
@@ -49,7 +50,7 @@ fn poll_answer(answer: Result<Option<ProcessEnd>, u16>) -> Answer
     }
 }
 
-fn options_answer(answer: Result<SpawnOptions, u16>) -> Answer
+fn options_answer(answer: Result<SpawnOptions, Fault>) -> Answer
     ensures { result ≡ Journal.or_fault Answer.Options answer }
 {
     match answer {
@@ -65,9 +66,9 @@ impl<H: Host, T: Terminal> Outside<'_, '_, '_, H, T> {
         options: SpawnOptions,
         way: u8,
         time: u64,
-    ) -> Result<u32, u16>
+    ) -> Result<u32, Fault>
         requires { self.old.used < length self.old.sheet.now }
-        ensures { Performs H.Host.did T.Terminal.did 1 (call (Calls.to_host (Calls.spawn program options way time))) self.old result self.new }
+        ensures { Performs H.Host T.Terminal 1 (call (Calls.to_host (Calls.spawn program options way time))) self.old result self.new }
     {
         let r = self.host.spawn(program, options, way, time);
         let answer = child_answer(r);
@@ -81,9 +82,9 @@ impl<H: Host, T: Terminal> Outside<'_, '_, '_, H, T> {
         r
     }
 
-    pub(crate) fn poll(&mut self, child: u32) -> Result<Option<ProcessEnd>, u16>
+    pub(crate) fn poll(&mut self, child: u32) -> Result<Option<ProcessEnd>, Fault>
         requires { self.old.used < length self.old.sheet.now }
-        ensures { Performs H.Host.did T.Terminal.did 1 (call (Calls.to_host (Calls.poll child))) self.old result self.new }
+        ensures { Performs H.Host T.Terminal 1 (call (Calls.to_host (Calls.poll child))) self.old result self.new }
     {
         let r = self.host.poll(child);
         let answer = poll_answer(r);
@@ -97,9 +98,9 @@ impl<H: Host, T: Terminal> Outside<'_, '_, '_, H, T> {
         r
     }
 
-    pub(crate) fn wait(&mut self, child: u32) -> Result<ProcessEnd, u16>
+    pub(crate) fn wait(&mut self, child: u32) -> Result<ProcessEnd, Fault>
         requires { self.old.used < length self.old.sheet.now }
-        ensures { Performs H.Host.did T.Terminal.did 1 (call (Calls.to_host (Calls.wait child))) self.old result self.new }
+        ensures { Performs H.Host T.Terminal 1 (call (Calls.to_host (Calls.wait child))) self.old result self.new }
     {
         let r = self.host.wait(child);
         let answer = end_answer(r);
@@ -113,9 +114,9 @@ impl<H: Host, T: Terminal> Outside<'_, '_, '_, H, T> {
         r
     }
 
-    pub(crate) fn kill(&mut self, child: u32) -> Result<(), u16>
+    pub(crate) fn kill(&mut self, child: u32) -> Result<(), Fault>
         requires { self.old.used < length self.old.sheet.now }
-        ensures { Performs H.Host.did T.Terminal.did 1 (call (Calls.to_host (Calls.kill child))) self.old result self.new }
+        ensures { Performs H.Host T.Terminal 1 (call (Calls.to_host (Calls.kill child))) self.old result self.new }
     {
         let r = self.host.kill(child);
         let answer = plain_answer(r);
@@ -129,9 +130,9 @@ impl<H: Host, T: Terminal> Outside<'_, '_, '_, H, T> {
         r
     }
 
-    pub(crate) fn cont(&mut self, child: u32) -> Result<(), u16>
+    pub(crate) fn cont(&mut self, child: u32) -> Result<(), Fault>
         requires { self.old.used < length self.old.sheet.now }
-        ensures { Performs H.Host.did T.Terminal.did 1 (call (Calls.to_host (Calls.cont child))) self.old result self.new }
+        ensures { Performs H.Host T.Terminal 1 (call (Calls.to_host (Calls.cont child))) self.old result self.new }
     {
         let r = self.host.cont(child);
         let answer = plain_answer(r);
@@ -150,9 +151,9 @@ impl<H: Host, T: Terminal> Outside<'_, '_, '_, H, T> {
         number: u8,
         state: CommandState,
         previous: Option<CommandState>,
-    ) -> Result<SpawnOptions, u16>
+    ) -> Result<SpawnOptions, Fault>
         requires { self.old.used < length self.old.sheet.now }
-        ensures { Performs H.Host.did T.Terminal.did 1 (call (Calls.to_host (Calls.hook number state previous))) self.old result self.new }
+        ensures { Performs H.Host T.Terminal 1 (call (Calls.to_host (Calls.hook number state previous))) self.old result self.new }
     {
         let r = self.host.hook(number, state, previous);
         let answer = options_answer(r);
@@ -166,16 +167,16 @@ impl<H: Host, T: Terminal> Outside<'_, '_, '_, H, T> {
         r
     }
 
-    pub(crate) fn tell(&mut self, handler: u8, code: u16) -> Result<(), u16>
+    pub(crate) fn tell(&mut self, handler: u8, fault: Fault) -> Result<(), Fault>
         requires { self.old.used < length self.old.sheet.now }
-        ensures { Performs H.Host.did T.Terminal.did 1 (call (Calls.to_host (Calls.tell handler code))) self.old result self.new }
+        ensures { Performs H.Host T.Terminal 1 (call (Calls.to_host (Calls.tell handler fault))) self.old result self.new }
     {
-        let r = self.host.tell(handler, code);
+        let r = self.host.tell(handler, fault);
         let answer = plain_answer(r);
         self.sheet[self.used] = Record {
             call: CallKind::Tell,
             child: 0,
-            number: u32::from(code),
+            number: u32::from(fault.code),
             answer,
         };
         self.used += 1;
@@ -184,7 +185,7 @@ impl<H: Host, T: Terminal> Outside<'_, '_, '_, H, T> {
 
     pub(crate) fn release(&mut self)
         requires { self.old.used < length self.old.sheet.now }
-        ensures { Performs H.Host.did T.Terminal.did 1 (call (Calls.to_terminal Calls.release)) self.old tt self.new }
+        ensures { Performs H.Host T.Terminal 1 (call (Calls.to_terminal Calls.release)) self.old tt self.new }
     {
         self.terminal.release();
         self.sheet[self.used] = Record {

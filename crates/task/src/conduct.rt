@@ -23,7 +23,7 @@ pub fn control<H: Host, T: Terminal>(
     control: Control,
     time: u64,
 ) -> Option<(Outcome, usize)>
-    ensures { Offered H.Host.did T.Terminal.did (Tree.control control time (task_view task.old)) task.old (record { host = host.old; terminal = terminal.old }) sheet.old result task.new (record { host = host.new; terminal = terminal.new }) sheet.new }
+    ensures { Offered H.Host T.Terminal (Tree.control control time (task_view task.old)) task.old (record { host = host.old; terminal = terminal.old }) sheet.old result task.new (record { host = host.new; terminal = terminal.new }) sheet.new }
 {
     if sheet.len() < LEAST_PLACES {
         return None;
@@ -46,7 +46,7 @@ pub fn poll<H: Host, T: Terminal>(
     sheet: &mut [Record],
     time: u64,
 ) -> Option<(PollOutcome, usize)>
-    ensures { Offered H.Host.did T.Terminal.did (Tree.poll_child time (task_view task.old)) task.old (record { host = host.old; terminal = terminal.old }) sheet.old result task.new (record { host = host.new; terminal = terminal.new }) sheet.new }
+    ensures { Offered H.Host T.Terminal (Tree.poll_child time (task_view task.old)) task.old (record { host = host.old; terminal = terminal.old }) sheet.old result task.new (record { host = host.new; terminal = terminal.new }) sheet.new }
 {
     if sheet.len() < LEAST_PLACES {
         return None;

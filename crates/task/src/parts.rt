@@ -8,6 +8,7 @@ use crate::messages::Control;
 use crate::outside::Outside;
 use crate::task::{Outcome, PollOutcome, Task};
 use host::command::SpawnOptions;
+use host::fault::Fault;
 use host::process::Host;
 use host::state::{CommandState, ProcessEnd};
 use host::terminal::Terminal;
@@ -15,7 +16,7 @@ use host::terminal::Terminal;
 // Forgets a pause, and continues the child.
 fn resume<H: Host, T: Terminal>(task: &mut Task, out: &mut Outside<'_, '_, '_, H, T>)
     requires { out.old.used + 1 ≤ length out.old.sheet.now }
-    ensures { Performs H.Host.did T.Terminal.did 1 (Tree.resume (task_view task.old)) out.old (task_view task.new) out.new }
+    ensures { Performs H.Host T.Terminal 1 (Tree.resume (task_view task.old)) out.old (task_view task.new) out.new }
 {
     let Some(_) = task.foreground.paused else {
         return;
@@ -29,7 +30,7 @@ fn resume<H: Host, T: Terminal>(task: &mut Task, out: &mut Outside<'_, '_, '_, H
 // Ends the watch, and releases a held grant.
 fn yield_foreground<H: Host, T: Terminal>(task: &mut Task, out: &mut Outside<'_, '_, '_, H, T>)
     requires { out.old.used + 1 ≤ length out.old.sheet.now }
-    ensures { Performs H.Host.did T.Terminal.did 1 (Tree.yield (task_view task.old)) out.old (task_view task.new) out.new }
+    ensures { Performs H.Host T.Terminal 1 (Tree.yield (task_view task.old)) out.old (task_view task.new) out.new }
 {
     task.foreground.watch = false;
     if task.foreground.grant {
@@ -45,12 +46,12 @@ fn end_by_force<H: Host, T: Terminal>(
     child: u32,
     started: u64,
     time: u64,
-) -> Result<(), u16>
+) -> Result<(), Fault>
     requires { out.old.used + 2 ≤ length out.old.sheet.now }
-    ensures { Performs H.Host.did T.Terminal.did 2 (Tree.end_by_force child started time (task_view task.old)) out.old (task_view task.new, result) out.new }
+    ensures { Performs H.Host T.Terminal 2 (Tree.end_by_force child started time (task_view task.old)) out.old (task_view task.new, result) out.new }
 {
-    if let Err(code) = out.kill(child) {
-        return Err(code);
+    if let Err(fault) = out.kill(child) {
+        return Err(fault);
     }
     match out.wait(child) {
         Ok(end) => {
@@ -61,7 +62,7 @@ fn end_by_force<H: Host, T: Terminal>(
             };
             Ok(())
         }
-        Err(code) => Err(code),
+        Err(fault) => Err(fault),
     }
 }
 
@@ -71,7 +72,7 @@ fn spawn_options<H: Host, T: Terminal>(
     out: &mut Outside<'_, '_, '_, H, T>,
 ) -> SpawnOptions
     requires { out.old.used + 1 ≤ length out.old.sheet.now }
-    ensures { Performs H.Host.did T.Terminal.did 1 (Tree.spawn_options (task_view task.now)) out.old result out.new }
+    ensures { Performs H.Host T.Terminal 1 (Tree.spawn_options (task_view task.now)) out.old result out.new }
 {
     let Some(hook) = task.settings.hook else {
         return task.command.options;
@@ -107,9 +108,9 @@ fn launch<H: Host, T: Terminal>(
     task: &mut Task,
     out: &mut Outside<'_, '_, '_, H, T>,
     time: u64,
-) -> Result<(), u16>
+) -> Result<(), Fault>
     requires { out.old.used + 2 ≤ length out.old.sheet.now }
-    ensures { Performs H.Host.did T.Terminal.did 2 (Tree.launch time (task_view task.old)) out.old (task_view task.new, result) out.new }
+    ensures { Performs H.Host T.Terminal 2 (Tree.launch time (task_view task.old)) out.old (task_view task.new, result) out.new }
 {
     reset(task, time);
     let options = spawn_options(task, out);
@@ -118,7 +119,7 @@ fn launch<H: Host, T: Terminal>(
             run_child(task, child, time);
             Ok(())
         }
-        Err(code) => Err(code),
+        Err(fault) => Err(fault),
     }
 }
 
@@ -126,13 +127,13 @@ fn launch<H: Host, T: Terminal>(
 fn report<H: Host, T: Terminal>(
     handler: Option<u8>,
     out: &mut Outside<'_, '_, '_, H, T>,
-    res: Result<(), u16>,
+    res: Result<(), Fault>,
 )
     requires { out.old.used + 1 ≤ length out.old.sheet.now }
-    ensures { Performs H.Host.did T.Terminal.did 1 (Tree.told handler res) out.old tt out.new }
+    ensures { Performs H.Host T.Terminal 1 (Tree.told handler res) out.old tt out.new }
 {
-    if let (Some(handler), Err(code)) = (handler, res) {
-        let _ = out.tell(handler, code);
+    if let (Some(handler), Err(fault)) = (handler, res) {
+        let _ = out.tell(handler, fault);
     }
 }
 
@@ -143,7 +144,7 @@ fn start<H: Host, T: Terminal>(
     time: u64,
 ) -> Outcome
     requires { out.old.used + 3 ≤ length out.old.sheet.now }
-    ensures { Performs H.Host.did T.Terminal.did 3 (Tree.control Control.Start time (task_view task.old)) out.old (task_view task.new, result) out.new }
+    ensures { Performs H.Host T.Terminal 3 (Tree.control Control.Start time (task_view task.old)) out.old (task_view task.new, result) out.new }
 {
     if task.state.is_running() {
         return Outcome::Settled;
@@ -154,7 +155,7 @@ fn start<H: Host, T: Terminal>(
 }
 
 // The outcome of ending a child by force.
-fn ended_if(forced: Result<(), u16>) -> Outcome
+fn ended_if(forced: Result<(), Fault>) -> Outcome
     ensures { result ≡ Tree.forced forced }
 {
     match forced {
@@ -170,7 +171,7 @@ fn stop_child<H: Host, T: Terminal>(
     time: u64,
 ) -> Outcome
     requires { out.old.used + 3 ≤ length out.old.sheet.now }
-    ensures { Performs H.Host.did T.Terminal.did 3 (Tree.stop_in task.old.state time (task_view task.old)) out.old (task_view task.new, result) out.new }
+    ensures { Performs H.Host T.Terminal 3 (Tree.stop_in task.old.state time (task_view task.old)) out.old (task_view task.new, result) out.new }
 {
     let CommandState::Running { child, started } = task.state else {
         return Outcome::Settled;
@@ -187,7 +188,7 @@ fn stop<H: Host, T: Terminal>(
     time: u64,
 ) -> Outcome
     requires { out.old.used + 5 ≤ length out.old.sheet.now }
-    ensures { Performs H.Host.did T.Terminal.did 5 (Tree.control Control.Stop time (task_view task.old)) out.old (task_view task.new, result) out.new }
+    ensures { Performs H.Host T.Terminal 5 (Tree.control Control.Stop time (task_view task.old)) out.old (task_view task.new, result) out.new }
 {
     resume(task, out);
     yield_foreground(task, out);
@@ -212,7 +213,7 @@ pub(crate) fn carry_out<H: Host, T: Terminal>(
     time: u64,
 ) -> Outcome
     requires { out.old.used + 7 ≤ length out.old.sheet.now }
-    ensures { Performs H.Host.did T.Terminal.did 7 (Tree.control control time (task_view task.old)) out.old (task_view task.new, result) out.new }
+    ensures { Performs H.Host T.Terminal 7 (Tree.control control time (task_view task.old)) out.old (task_view task.new, result) out.new }
 {
     match control {
         Control::Start => start(task, out, time),
@@ -227,15 +228,15 @@ fn polled<H: Host, T: Terminal>(
     out: &mut Outside<'_, '_, '_, H, T>,
     started: u64,
     time: u64,
-    answer: Result<Option<ProcessEnd>, u16>,
+    answer: Result<Option<ProcessEnd>, Fault>,
 ) -> PollOutcome
     requires { out.old.used + 1 ≤ length out.old.sheet.now }
-    ensures { Performs H.Host.did T.Terminal.did 1 (Tree.polled started time (task_view task.old) answer) out.old (task_view task.new, result) out.new }
+    ensures { Performs H.Host T.Terminal 1 (Tree.polled started time (task_view task.old) answer) out.old (task_view task.new, result) out.new }
 {
     let end = match answer {
         Ok(end) => end,
-        Err(code) => {
-            report(task.settings.handler, out, Err(code));
+        Err(fault) => {
+            report(task.settings.handler, out, Err(fault));
             return PollOutcome::Faulted;
         }
     };
@@ -258,7 +259,7 @@ pub(crate) fn poll_child<H: Host, T: Terminal>(
     time: u64,
 ) -> PollOutcome
     requires { out.old.used + 2 ≤ length out.old.sheet.now }
-    ensures { Performs H.Host.did T.Terminal.did 2 (Tree.poll_child time (task_view task.old)) out.old (task_view task.new, result) out.new }
+    ensures { Performs H.Host T.Terminal 2 (Tree.poll_child time (task_view task.old)) out.old (task_view task.new, result) out.new }
 {
     let CommandState::Running { child, started } = task.state else {
         return PollOutcome::Idle;

@@ -18,32 +18,24 @@ fn host_of(mask: u32) -> SimulatedHost {
 }
 
 fn spawned(host: &mut SimulatedHost) -> i64 {
-    match host.spawn(1, PLAIN, 0, 10) {
-        Ok(child) => Answer::Child(child).number(),
-        Err(code) => Answer::Fault(code).number(),
-    }
+    let answer = host.spawn(1, PLAIN, 0, 10);
+    i64::from(answer.map_or_else(Answer::Fault, Answer::Child))
 }
 
 fn polled(host: &mut SimulatedHost, child: u32) -> i64 {
-    match host.poll(child) {
-        Ok(None) => 0,
-        Ok(Some(end)) => Answer::End(end).number(),
-        Err(code) => Answer::Fault(code).number(),
-    }
+    let end = host
+        .poll(child)
+        .map(|end| end.map_or(Answer::Nothing, Answer::End));
+    i64::from(end.unwrap_or_else(Answer::Fault))
 }
 
 fn waited(host: &mut SimulatedHost, child: u32) -> i64 {
-    match host.wait(child) {
-        Ok(end) => Answer::End(end).number(),
-        Err(code) => Answer::Fault(code).number(),
-    }
+    i64::from(host.wait(child).map_or_else(Answer::Fault, Answer::End))
 }
 
 fn signalled(host: &mut SimulatedHost, child: u32, signal: u8) -> i64 {
-    match host.signal(child, signal) {
-        Ok(()) => 0,
-        Err(code) => Answer::Fault(code).number(),
-    }
+    let answer = host.signal(child, signal).err();
+    i64::from(answer.map_or(Answer::Nothing, Answer::Fault))
 }
 
 fn is_stopped(host: &SimulatedHost, child: u32) -> bool {

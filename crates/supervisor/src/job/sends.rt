@@ -25,9 +25,7 @@ impl Job {
         if program == 0 {
             return Err(Refusal::Number);
         }
-        let Some(options) = SpawnOptions::from_sum(options) else {
-            return Err(Refusal::Number);
-        };
+        let options = SpawnOptions::try_from(options)?;
         let task = Task {
             command: Command { program, options },
             settings: Settings {
@@ -147,11 +145,7 @@ impl Job {
         if ticket == 0 {
             return Ok(());
         }
-        let done = match self.is_done(ticket) {
-            Ok(done) => done,
-            Err(refusal) => return Err(refusal),
-        };
-        if !done {
+        if !self.is_done(ticket)? {
             return Err(Refusal::Waiting);
         }
         self.mailbox.vacate(ticket);

@@ -6,6 +6,7 @@ ghost use Rattle.supervisor.specs.Steps.{job_view, Steps};
 use super::Job;
 use crate::answers::{Progress, Stepped};
 use crate::errors::Refusal;
+use host::fault::Fault;
 use host::journal::Record;
 use host::process::Host;
 use host::terminal::Terminal;
@@ -50,7 +51,7 @@ impl Job {
         sheet: &mut [Record],
         time: u64,
     ) -> Result<Stepped, Refusal>
-        ensures { Steps H.Host.did T.Terminal.did H.Host.book T.Terminal.book Spec.control_step time (record { job = self.old; host = host.old; terminal = terminal.old; sheet = sheet.old }) result (record { job = self.new; host = host.new; terminal = terminal.new; sheet = sheet.new }) }
+        ensures { Steps H.Host T.Terminal Spec.control_step time (record { job = self.old; host = host.old; terminal = terminal.old; sheet = sheet.old }) result (record { job = self.new; host = host.new; terminal = terminal.new; sheet = sheet.new }) }
     {
         if let Some(refusal) = self.step_refusal(time, sheet.len()) {
             return Err(refusal);
@@ -89,7 +90,7 @@ impl Job {
         sheet: &mut [Record],
         time: u64,
     ) -> Result<Stepped, Refusal>
-        ensures { Steps H.Host.did T.Terminal.did H.Host.book T.Terminal.book Spec.child_step time (record { job = self.old; host = host.old; terminal = terminal.old; sheet = sheet.old }) result (record { job = self.new; host = host.new; terminal = terminal.new; sheet = sheet.new }) }
+        ensures { Steps H.Host T.Terminal Spec.child_step time (record { job = self.old; host = host.old; terminal = terminal.old; sheet = sheet.old }) result (record { job = self.new; host = host.new; terminal = terminal.new; sheet = sheet.new }) }
     {
         if let Some(why) = self.step_refusal(time, sheet.len()) {
             return Err(why);

@@ -8,7 +8,7 @@ use Rattle.task.proofs.parts.polled.Goals as goal
 pub returns-in-Err : goal.returns-in-Err
 returns-in-Err g c =
     at_value (Tree.polled c.args.started c.args.time (task_view c.args.task.now)) (sym c.in-Err.is)
-    (and_then (Tree.told c.args.task.now.settings.handler (Err c.in-Err.code)) _ c.report.ensures still)
+    (and_then (Tree.told c.args.task.now.settings.handler (Err c.in-Err.fault)) _ c.report.ensures still)
 
 pub returns : goal.returns
 returns g c =

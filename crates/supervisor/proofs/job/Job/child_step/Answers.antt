@@ -22,7 +22,7 @@ invariant_of-self g c =
     let order : j.closed ≡ false → InOrder [] (mailbox_view c.after_poll.new.self) =
     λ e. subst (InOrder []) (sym c.after_poll.ensures) (after_poll_in c.in-Some-poll.outcome (mailbox_view j.mailbox) (order_of j e)) in
     let granted : Granted (task_view c.poll.new.task) =
-    always_ends (Answered g.H.Host.did g.T.Terminal.did) (λ x. Granted x.0) (poll_child c.args.time (task_view j.task)) _ _ run.trace _ (poll_granted c.args.time (task_view j.task) j.granted) run.traces in
+    always_ends (Answered g.H.Host g.T.Terminal) (λ x. Granted x.0) (poll_child c.args.time (task_view j.task)) _ _ run.trace _ (poll_granted c.args.time (task_view j.task) j.granted) run.traces in
     record {
       balanced = λ e. (order e).balance;
       once = λ e. (order e).once;
@@ -34,4 +34,4 @@ invariant_of-self g c =
 pub returns : goal.returns
 returns g c =
     let j = c.args.self.now in
-    (sym c.in_default.ensures, accepted g.H.Host.did g.T.Terminal.did g.H.Host.book g.T.Terminal.book g.H.Host.most g.met.H.Host.keeps g.met.T.Terminal.keeps (child_step c.args.time (job_view j)) _ _ _ (child_step_few c.args.time (job_view j)) (then_done (poll_child c.args.time (task_view j.task)) (watched c.args.time (job_view j)) (same-stepping j.closed _ c.args.time c.after_poll.ensures c.poll_progress.ensures refl) c.in-Some-poll.ensures.1))
+    (sym c.in_default.ensures, accepted g.H.Host g.T.Terminal g.met.H.Host.keeps g.met.T.Terminal.keeps (child_step c.args.time (job_view j)) _ _ _ (child_step_few c.args.time (job_view j)) (then_done (poll_child c.args.time (task_view j.task)) (watched c.args.time (job_view j)) (same-stepping j.closed _ c.args.time c.after_poll.ensures c.poll_progress.ensures refl) c.in-Some-poll.ensures.1))

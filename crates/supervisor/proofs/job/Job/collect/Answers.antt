@@ -10,7 +10,7 @@ invariant_of-self c =
     let j = c.args.self.now in
     let m = mailbox_view j.mailbox in
     let order : j.closed ≡ false → InOrder [] (mailbox_view c.vacate.new.self) =
-    λ e. subst (InOrder []) (sym c.vacate.ensures) (vacate_in c.args.ticket m (order_of j e) (done-raised (found c.args.ticket m.table) j.closed c.in-Ok.done e c.if-not-done.false c.in-Ok.ensures)) in
+    λ e. subst (InOrder []) (sym c.vacate.ensures) (vacate_in c.args.ticket m (order_of j e) (done-raised (found c.args.ticket m.table) j.closed _ e c.if-not-branch.false c.in_ok-is_done.ensures)) in
     record {
       balanced = λ e. (order e).balance;
       once = λ e. (order e).once;

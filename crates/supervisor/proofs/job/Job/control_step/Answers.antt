@@ -36,7 +36,7 @@ invariant_of-self-2 g c =
     let order : j.closed ≡ false → InOrder [] (mailbox_view c.settle.new.self) =
     λ e. subst (InOrder []) (sym c.settle.ensures) (settle_in c.in-Some-control.outcome message.ticket _ (in-hand (mailbox_view j.mailbox) message _ (order_of j e) c.in-Some-receive.ensures.taken)) in
     let granted : Granted (task_view c.control.new.task) =
-    always_ends (Answered g.H.Host.did g.T.Terminal.did) (λ x. Granted x.0) (control message.control c.args.time t) _ _ run.trace _ (control_granted message.control c.args.time t j.granted) run.traces in
+    always_ends (Answered g.H.Host g.T.Terminal) (λ x. Granted x.0) (control message.control c.args.time t) _ _ run.trace _ (control_granted message.control c.args.time t j.granted) run.traces in
     record {
       balanced = λ e. (order e).balance;
       once = λ e. (order e).once;
@@ -49,7 +49,7 @@ pub returns-in_default-receive : goal.returns-in_default-receive
 returns-in_default-receive g c =
     let j = c.args.self.now in (
       sym c.in_default.ensures,
-      accepted g.H.Host.did g.T.Terminal.did g.H.Host.book g.T.Terminal.book g.H.Host.most g.met.H.Host.keeps g.met.T.Terminal.keeps (control_step c.args.time (job_view j)) _ _ _ (control_step_few c.args.time (job_view j))
+      accepted g.H.Host g.T.Terminal g.met.H.Host.keeps g.met.T.Terminal.keeps (control_step c.args.time (job_view j)) _ _ _ (control_step_few c.args.time (job_view j))
           (at_value (λ (t : Taken). carry_out t c.args.time (job_view j)) (sym c.in_default-receive.ensures.taken)
           (silent (same-stepping j.closed (task_view j.task) c.args.time (ap (λ (q : QueuesView). with_queues q (mailbox_view j.mailbox)) (c.in_default-receive.ensures.idle refl)) refl refl))),
     )
@@ -60,7 +60,7 @@ returns g c =
     let message = c.in-Some-receive.message in
     let q = queues_view c.receive.new.self in (
       sym c.in_default.ensures,
-      accepted g.H.Host.did g.T.Terminal.did g.H.Host.book g.T.Terminal.book g.H.Host.most g.met.H.Host.keeps g.met.T.Terminal.keeps (control_step c.args.time (job_view j)) _ _ _ (control_step_few c.args.time (job_view j))
+      accepted g.H.Host g.T.Terminal g.met.H.Host.keeps g.met.T.Terminal.keeps (control_step c.args.time (job_view j)) _ _ _ (control_step_few c.args.time (job_view j))
           (at_value (λ (t : Taken). carry_out t c.args.time (job_view j)) (sym c.in-Some-receive.ensures.taken)
           (then_done (control message.control c.args.time (task_view j.task)) (carried c.args.time (job_view j) message q)
           (same-stepping j.closed _ c.args.time c.settle.ensures refl c.orders_start.ensures) c.in-Some-control.ensures.1)),

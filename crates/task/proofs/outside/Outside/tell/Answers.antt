@@ -4,4 +4,4 @@ use Rattle.task.proofs.Performing.{once}
 use Rattle.task.proofs.outside.Outside.tell.Goals as goal
 
 pub returns : goal.returns
-returns g c = once (Calls.to_host (Calls.tell c.args.handler c.args.code)) c.tell-r.result _ _ ((c.tell-r.ensures, refl), cc, refl) refl refl refl
+returns g c = once (Calls.to_host (Calls.tell c.args.handler c.args.fault)) c.tell-r.result _ _ ((c.tell-r.ensures, refl), cc, refl) refl refl refl
