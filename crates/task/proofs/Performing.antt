@@ -1,42 +1,60 @@
--- How runs through what is lent to the parts of a step are put together.
-use Rattle.std.proofs.Common.{◌≡◌, ℕ, ◌+◌, ◌≤◌, [], refl, ◌∙◌, subst, arith}
+-- How runs of interaction trees in a step are put together.
+use Rattle.std.proofs.Common.{◌≡◌, ℕ, ◌+◌, ◌≤◌, [], refl, ◌∙◌, slice_set, subst, arith, MutBor}
 use Rattle.host.specs.declared.process.Host as Host
 use Rattle.host.specs.declared.terminal.Terminal as Terminal
+use Rattle.host.specs.declared.journal.Record.{Record}
 use Rattle.host.specs.Calls.{Call, Reply}
-use Rattle.host.specs.Interaction.{Interaction, done, bind, call}
-use Rattle.task.specs.declared.outside.Outside.{Outside}
-use Rattle.task.specs.Place.{Asked}
-use Rattle.task.specs.Performs.{Performs, place}
+use Rattle.host.specs.Interaction.{Interaction, done, bind, Answered}
+use Rattle.host.specs.Journal.{record_of}
+use Rattle.task.specs.declared.step.Step.{Step}
+use Rattle.task.specs.declared.task.Task.{Task}
+use Rattle.task.specs.Place.{Asked, world}
+use Rattle.task.specs.Performs.{Performs, Asks, Records, Same, place}
 use Rattle.task.proofs.Running as Running
 
+module _ {H T : Type 0} where
+  same_then : {s m s' : Step H T} → Same s m → Same m s' → Same s s'
+  same_then a b = record { task = b.task ∙ a.task; host = b.host ∙ a.host; terminal = b.terminal ∙ a.terminal; sheet = b.sheet ∙ a.sheet; time = b.time ∙ a.time }
+
 module _ {H T : Type 0} {by_host : Host.Ghosts H} {by_terminal : Terminal.Ghosts T} where
-  -- nothing was asked
-  pub still : {A : Type 0} {x : A} {o : Outside H T} → Performs by_host by_terminal 0 (done x) o x o
-  still {A} {x} {o} = record { ran = Running.still x (place o); used = omega arith; same_host = refl; same_terminal = refl; same_sheet = refl }
-
-  -- the same, with the value in another form
-  pub still_at : {A : Type 0} {x y : A} {o : Outside H T} → x ≡ y → Performs by_host by_terminal 0 (done y) o x o
-  still_at {A} {x} {y} {o} e = record { ran = record { trace = []; traces = (refl, e, refl) }; used = omega arith; same_host = refl; same_terminal = refl; same_sheet = refl }
-
-  -- the same run, with the tree at an equal value
-  pub at_value : {A V : Type 0} (f : V → Interaction A) {v w : V} {n : ℕ} {o o' : Outside H T} {x : A} → v ≡ w → Performs by_host by_terminal n (f v) o x o' → Performs by_host by_terminal n (f w) o x o'
-  at_value {A} {V} f {v} {w} {n} {o} {o'} {x} e k = subst (λ (z : V). Performs by_host by_terminal n (f z) o x o') e k
-
-  -- one call, as it was answered and recorded
-  pub once : (c : Call) (a : Reply c) (o o' : Outside H T) → Asked by_host by_terminal (place o) c a (place o') → o'.host.ghost_name ≡ o.host.ghost_name → o'.terminal.ghost_name ≡ o.terminal.ghost_name → o'.sheet.ghost_name ≡ o.sheet.ghost_name → Performs by_host by_terminal 1 (call c) o a o'
-  once c a o o' d h t s = record { ran = Running.once c a (place o) (place o') d; used = omega (arith, d.2); same_host = h; same_terminal = t; same_sheet = s }
-
-  -- one tree, and the one that follows from its value
-  pub and_then : {A B : Type 0} (t : Interaction A) (f : A → Interaction B) {a b : ℕ} {o m o' : Outside H T} {x : A} {y : B} → Performs by_host by_terminal a t o x m → Performs by_host by_terminal b (f x) m y o' → Performs by_host by_terminal (a + b) (bind t f) o y o'
-  and_then t f u v =
+  -- nothing was asked; only the task may have another value
+  pub still_at : {A : Type 0} {x y : A} {s : Step H T} {k : MutBor Task} → k.ghost_name ≡ s.task.ghost_name → x ≡ y → Performs by_host by_terminal 0 (done y) s x (record { task = k; host = s.host; terminal = s.terminal; sheet = s.sheet; used = s.used; time = s.time })
+  still_at {A} {x} {y} {s} n e =
       record {
-        ran = Running.and_then t f u.ran v.ran;
-        used = omega (arith, u.used, v.used);
-        same_host = v.same_host ∙ u.same_host;
-        same_terminal = v.same_terminal ∙ u.same_terminal;
-        same_sheet = v.same_sheet ∙ u.same_sheet;
+        ran = record { trace = []; traces = (refl, e, refl) };
+        used = omega arith;
+        same = record { task = n; host = refl; terminal = refl; sheet = refl; time = refl };
       }
 
+  -- the same run from a step whose task had another value
+  pub from_change : {A : Type 0} {t : Interaction A} {n : ℕ} {s s' : Step H T} {x : A} {k : MutBor Task} → k.ghost_name ≡ s.task.ghost_name → Performs by_host by_terminal n t (record { task = k; host = s.host; terminal = s.terminal; sheet = s.sheet; used = s.used; time = s.time }) x s' → Performs by_host by_terminal n t s x s'
+  from_change n u =
+      record {
+        ran = u.ran;
+        used = u.used;
+        same = record { task = u.same.task ∙ n; host = u.same.host; terminal = u.same.terminal; sheet = u.same.sheet; time = u.same.time };
+      }
+
+  -- the same run, with the tree at an equal value
+  pub at_value : {A V : Type 0} (f : V → Interaction A) {v w : V} {n : ℕ} {s s' : Step H T} {x : A} → v ≡ w → Performs by_host by_terminal n (f v) s x s' → Performs by_host by_terminal n (f w) s x s'
+  at_value {A} {V} f {v} {w} {n} {s} {s'} {x} e k = subst (λ (z : V). Performs by_host by_terminal n (f z) s x s') e k
+
+  -- one call that was answered, and then recorded
+  pub asked : (c : Call) {a : Reply c} {s m s' : Step H T} {r : Record} → Answered by_host by_terminal (world (place s)) c a (world (place m)) → Same s m → m.task.now ≡ s.task.now → m.sheet ≡ s.sheet → m.used ≡ s.used → Records r m s' → r ≡ record_of c a → Asks by_host by_terminal c s a s'
+  asked c {a} {s} {m} {s'} {r} d same t h u w e =
+      let answered : Answered by_host by_terminal (world (place s)) c a (world (place s')) = rw (w.host, w.terminal) d in
+      let sheet : s'.sheet.now ≡ slice_set s.sheet.now s.used (record_of c a) = rw (← e, ← h, ← u) w.sheet in
+      let here : Asked by_host by_terminal (place s) c a (place s') = (answered, sheet, omega (arith, w.used, u)) in
+      let recorded : Same m s' = record { task = rw w.task refl; host = rw w.host refl; terminal = rw w.terminal refl; sheet = w.same_sheet; time = w.time } in
+      record {
+        performs = record { ran = Running.once c a (place s) (place s') here; used = omega (arith, w.used, u); same = same_then same recorded };
+        task = rw w.task t;
+      }
+
+  -- one tree, and the one that follows from its value
+  pub and_then : {A B : Type 0} (t : Interaction A) (f : A → Interaction B) {a b : ℕ} {s m s' : Step H T} {x : A} {y : B} → Performs by_host by_terminal a t s x m → Performs by_host by_terminal b (f x) m y s' → Performs by_host by_terminal (a + b) (bind t f) s y s'
+  and_then t f u v = record { ran = Running.and_then t f u.ran v.ran; used = omega (arith, u.used, v.used); same = same_then u.same v.same }
+
   -- fewer calls than allowed
-  pub at_most : {A : Type 0} {t : Interaction A} {a : ℕ} {o o' : Outside H T} {x : A} (b : ℕ) → a ≤ b → Performs by_host by_terminal a t o x o' → Performs by_host by_terminal b t o x o'
-  at_most b l u = record { ran = u.ran; used = omega (arith, u.used); same_host = u.same_host; same_terminal = u.same_terminal; same_sheet = u.same_sheet }
+  pub at_most : {A : Type 0} {t : Interaction A} {a : ℕ} {s s' : Step H T} {x : A} (b : ℕ) → a ≤ b → Performs by_host by_terminal a t s x s' → Performs by_host by_terminal b t s x s'
+  at_most b l u = record { ran = u.ran; used = omega (arith, u.used); same = u.same }

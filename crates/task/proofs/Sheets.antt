@@ -7,7 +7,7 @@ use Rattle.host.specs.declared.terminal.Terminal as Terminal
 use Rattle.host.specs.Calls.{Event}
 use Rattle.host.specs.Interaction.{Interaction, done, ask, bind, Traces, World, Answered}
 use Rattle.host.specs.Journal.{record_of, journal}
-use Rattle.task.specs.declared.outside.Outside.{Outside}
+use Rattle.task.specs.declared.step.Step.{Step}
 use Rattle.task.specs.Conducts.{Conducts}
 use Rattle.task.specs.Place.{Place, world, Asked}
 use Rattle.task.specs.Performs.{Performs, place}
@@ -57,7 +57,7 @@ module _ {H T : Type 0} (by_host : Host.Ghosts H) (by_terminal : Terminal.Ghosts
 
 module _ {H T : Type 0} {by_host : Host.Ghosts H} {by_terminal : Terminal.Ghosts T} where
   -- a run through what is lent from an empty sheet on, at what the lenders hold after it
-  pub conducted : {A : Type 0} {t : Interaction A} {n : ℕ} {o o' : Outside H T} {x : A} {h : H} {m : T} {xs : List Record} → o.used ≡ 0 → n ≤ length o.sheet.now → h ≡ o'.host.now → m ≡ o'.terminal.now → xs ≡ o'.sheet.now → Performs by_host by_terminal n t o x o' → Conducts by_host by_terminal t (world (place o)) o.sheet.now x o'.used (record { host = h; terminal = m }) xs
+  pub conducted : {A : Type 0} {t : Interaction A} {n : ℕ} {o o' : Step H T} {x : A} {h : H} {m : T} {xs : List Record} → o.used ≡ 0 → n ≤ length o.sheet.now → h ≡ o'.host.now → m ≡ o'.terminal.now → xs ≡ o'.sheet.now → Performs by_host by_terminal n t o x o' → Conducts by_host by_terminal t (world (place o)) o.sheet.now x o'.used (record { host = h; terminal = m }) xs
   conducted {A} {t} {n} {o} {o'} {x} {h} {m} {xs} z few eh em ex r =
       let p = r.ran.trace in
       let count : o'.used ≡ o.used + length p = used-count by_host by_terminal t (place o) (place o') p x r.ran.traces in

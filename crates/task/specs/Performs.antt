@@ -1,19 +1,52 @@
--- An interaction tree that is run through what is lent to the parts of a step.
-use Rattle.std.specs.Prelude.{◌≡◌, ℕ, ◌+◌, ◌≤◌}
+-- Interaction trees that are run in a step, through what is lent to it.
+use Rattle.std.specs.Prelude.{◌≡◌, ℕ, ◌+◌, ◌≤◌, length, slice_set}
+use Rattle.host.specs.declared.journal.Record.{Record}
 use Rattle.host.specs.declared.process.Host as Host
 use Rattle.host.specs.declared.terminal.Terminal as Terminal
-use Rattle.host.specs.Interaction.{Interaction}
-use Rattle.task.specs.declared.outside.Outside.{Outside}
+use Rattle.host.specs.Calls.{Call, Reply}
+use Rattle.host.specs.Interaction.{Interaction, call}
+use Rattle.task.specs.declared.step.Step.{Step}
 use Rattle.task.specs.Place.{Place, Ran}
+use Rattle.task.specs.Task.{TaskView}
+use Rattle.task.specs.View.{task_view}
 
--- what the lent things hold
-abbrev pub place : {H T : Type 0} → Outside H T → Place H T
-place o = record { host = o.host.now; terminal = o.terminal.now; sheet = o.sheet.now; used = o.used }
+-- the sheet has room for n records more
+abbrev pub Room : {H T : Type 0} → ℕ → Step H T → Type 0
+Room n s = s.used + n ≤ length s.sheet.now
 
--- The tree t was run from o to o' and ended with x, with at most `most` calls; the same three things are lent.
-pub record Performs {H T A : Type 0} (by_host : Host.Ghosts H) (by_terminal : Terminal.Ghosts T) (most : ℕ) (t : Interaction A) (o : Outside H T) (x : A) (o' : Outside H T) : Type 0 where
-  pub ran : Ran by_host by_terminal t (place o) x (place o')
-  pub used : o'.used ≤ o.used + most
-  pub same_host : o'.host.ghost_name ≡ o.host.ghost_name
-  pub same_terminal : o'.terminal.ghost_name ≡ o.terminal.ghost_name
-  pub same_sheet : o'.sheet.ghost_name ≡ o.sheet.ghost_name
+-- the task of a step
+abbrev pub task_of : {H T : Type 0} → Step H T → TaskView
+task_of s = task_view s.task.now
+
+-- what the host, the terminal and the sheet hold
+abbrev pub place : {H T : Type 0} → Step H T → Place H T
+place s = record { host = s.host.now; terminal = s.terminal.now; sheet = s.sheet.now; used = s.used }
+
+-- the same things are lent, at the same time
+pub record Same {H T : Type 0} (s s' : Step H T) : Type 0 where
+  pub task : s'.task.ghost_name ≡ s.task.ghost_name
+  pub host : s'.host.ghost_name ≡ s.host.ghost_name
+  pub terminal : s'.terminal.ghost_name ≡ s.terminal.ghost_name
+  pub sheet : s'.sheet.ghost_name ≡ s.sheet.ghost_name
+  pub time : s'.time ≡ s.time
+
+-- The tree t was run from s to s' and ended with x, with at most `most` calls.
+pub record Performs {H T A : Type 0} (by_host : Host.Ghosts H) (by_terminal : Terminal.Ghosts T) (most : ℕ) (t : Interaction A) (s : Step H T) (x : A) (s' : Step H T) : Type 0 where
+  pub ran : Ran by_host by_terminal t (place s) x (place s')
+  pub used : s'.used ≤ s.used + most
+  pub same : Same s s'
+
+-- the call was made and answered a, and the task is as it was
+pub record Asks {H T : Type 0} (by_host : Host.Ghosts H) (by_terminal : Terminal.Ghosts T) (c : Call) (s : Step H T) (a : Reply c) (s' : Step H T) : Type 0 where
+  pub performs : Performs by_host by_terminal 1 (call c) s a s'
+  pub task : s'.task.now ≡ s.task.now
+
+-- the record was written in the next place of the sheet; nothing else changed
+pub record Records {H T : Type 0} (r : Record) (s s' : Step H T) : Type 0 where
+  pub sheet : s'.sheet.now ≡ slice_set s.sheet.now s.used r
+  pub used : s'.used ≡ s.used + 1
+  pub task : s'.task ≡ s.task
+  pub host : s'.host ≡ s.host
+  pub terminal : s'.terminal ≡ s.terminal
+  pub same_sheet : s'.sheet.ghost_name ≡ s.sheet.ghost_name
+  pub time : s'.time ≡ s.time

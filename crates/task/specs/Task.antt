@@ -1,6 +1,7 @@
 -- The task of a job: its parts, its controls and its poll of the child, as interaction trees.
-use Rattle.std.specs.Prelude.{◌≡◌, ℕ, Bool, true, false, List, [], Some, None, Ok, Err, Option, Result, ⊤}
+use Rattle.std.specs.Prelude.{◌≡◌, ℕ, Bool, true, false, List, [], if◌then◌else◌, Some, None, Ok, Err, Option, Result, ⊤}
 use Rattle.host.specs.declared.fault.Fault.{Fault}
+use Rattle.std.specs.Result.{result_unwrap_or}
 use Rattle.host.specs.declared.command.SpawnOptions.{SpawnOptions}
 use Rattle.host.specs.declared.command.Command.{Command}
 use Rattle.host.specs.declared.state.ProcessEnd.{ProcessEnd}
@@ -34,10 +35,7 @@ pub record TaskView : Type 0 where
   pub foreground : ForegroundView
 
 abbrev pub in_state : CommandState → TaskView → TaskView
-in_state s t = record { command = t.command; settings = t.settings; state = s; previous = t.previous; foreground = t.foreground }
-
-abbrev pub with_foreground : ForegroundView → TaskView → TaskView
-with_foreground f t = record { command = t.command; settings = t.settings; state = t.state; previous = t.previous; foreground = f }
+in_state s t = record t { state = s }
 
 -- PARTS
 
@@ -48,13 +46,12 @@ Part = Interaction (TaskView × Result ⊤ Fault)
 -- Resume: a paused signal is forgotten, and the child, if one runs, is continued; a fault is ignored.
 
 abbrev pub not_paused : TaskView → TaskView
-not_paused t = with_foreground (record { paused = None; pauses = t.foreground.pauses; watch = t.foreground.watch; grant = t.foreground.grant }) t
+not_paused t = record t { foreground = record t.foreground { paused = None } }
 
 abbrev pub resumed : Option ℕ → CommandState → TaskView → Interaction TaskView
 resumed None s t = done t
-resumed (Some p) Pending t = done (not_paused t)
 resumed (Some p) (Running child started) t = bind (call (to_host (Calls.cont child))) (λ _. done (not_paused t))
-resumed (Some p) (Finished end started finished) t = done (not_paused t)
+resumed (Some p) s t = done (not_paused t)
 
 abbrev pub resume : TaskView → Interaction TaskView
 resume t = resumed t.foreground.paused t.state t
@@ -62,7 +59,7 @@ resume t = resumed t.foreground.paused t.state t
 -- Yield: the watch ends, and a held grant is released.
 
 abbrev pub unwatched : TaskView → TaskView
-unwatched t = with_foreground (record { paused = t.foreground.paused; pauses = t.foreground.pauses; watch = false; grant = false }) t
+unwatched t = record t { foreground = record t.foreground { watch = false; grant = false } }
 
 abbrev pub yielded : Bool → TaskView → Interaction TaskView
 yielded false t = done (unwatched t)
@@ -89,21 +86,18 @@ end_by_force child started time t = bind (call (to_host (Calls.kill child))) (ki
 -- command has grant_foreground.
 
 abbrev pub reset : ℕ → TaskView → TaskView
-reset time t = record { command = t.command; settings = t.settings; state = Pending; previous = Some (kept time t.state); foreground = t.foreground }
-
-abbrev pub or_else : SpawnOptions → Result SpawnOptions Fault → SpawnOptions
-or_else options (Ok o) = o
-or_else options (Err fault) = options
+reset time t = record t { state = Pending; previous = Some (kept time t.state) }
 
 abbrev pub hooked : Option ℕ → TaskView → Interaction SpawnOptions
 hooked None t = done t.command.options
-hooked (Some n) t = bind (call (to_host (Calls.hook n t.state t.previous))) (λ a. done (or_else t.command.options a))
+hooked (Some n) t = bind (call (to_host (Calls.hook n t.state t.previous))) (λ a. done (result_unwrap_or a t.command.options))
 
 abbrev pub spawn_options : TaskView → Interaction SpawnOptions
 spawn_options t = hooked t.settings.hook t
 
 abbrev pub started : ℕ → ℕ → TaskView → TaskView
-started child time t = with_foreground (record { paused = None; pauses = []; watch = t.command.options.grant_foreground; grant = t.foreground.grant }) (in_state (Running child time) t)
+started child time t =
+    record t { state = Running child time; foreground = record t.foreground { paused = None; pauses = []; watch = t.command.options.grant_foreground } }
 
 abbrev pub spawned : ℕ → TaskView → Result ℕ Fault → TaskView × Result ⊤ Fault
 spawned time t (Ok child) = (started child time t, Ok tt)
@@ -144,15 +138,12 @@ forced (Ok u) = Ended
 forced (Err fault) = Settled
 
 abbrev pub stop_in : CommandState → ℕ → TaskView → Course
-stop_in Pending time t = done (t, Settled)
 stop_in (Running child began) time t = bind (reported (end_by_force child began time t)) (λ x. done (x.0, forced x.1))
-stop_in (Finished end began finished) time t = done (t, Settled)
+stop_in s time t = done (t, Settled)
 
 -- who waits for the next ending waits while a child runs
 abbrev pub joins : CommandState → Outcome
-joins Pending = Settled
-joins (Running child began) = Joined
-joins (Finished end began finished) = Settled
+joins s = if is_running s then Joined else Settled
 
 abbrev pub control : Control → ℕ → TaskView → Course
 control Start time t = start_unless (is_running t.state) time t
@@ -168,9 +159,8 @@ polled began time t (Ok (Some end)) = bind (yield (in_state (Finished end began 
 polled began time t (Err fault) = bind (told t.settings.handler (Err fault)) (λ _. done (t, Faulted))
 
 abbrev pub poll_in : CommandState → ℕ → TaskView → Interaction (TaskView × PollOutcome)
-poll_in Pending time t = done (t, Idle)
 poll_in (Running child began) time t = bind (call (to_host (Calls.poll child))) (polled began time t)
-poll_in (Finished end began finished) time t = done (t, Idle)
+poll_in s time t = done (t, Idle)
 
 abbrev pub poll_child : ℕ → TaskView → Interaction (TaskView × PollOutcome)
 poll_child time t = poll_in t.state time t

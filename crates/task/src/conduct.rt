@@ -1,11 +1,14 @@
 // A control and a poll, with the host, the terminal and the sheet that their calls are recorded on.
+ghost use Rattle.std.specs.Prelude.{ℕ};
+ghost use Rattle.host.specs.Interaction.{Interaction};
 ghost use Rattle.task.specs.Conducts.{Offered};
+ghost use Rattle.task.specs.Performs.{Performs, Room, task_of};
 ghost use Rattle.task.specs.Task as Tree;
+ghost use Rattle.task.specs.Task.{TaskView};
 ghost use Rattle.task.specs.View.{task_view};
 
 use crate::messages::Control;
-use crate::outside::Outside;
-use crate::parts;
+use crate::step::Step;
 use crate::task::{Outcome, PollOutcome, Task};
 use host::journal::Record;
 use host::process::Host;
@@ -13,6 +16,67 @@ use host::terminal::Terminal;
 
 // The places that a control or a poll may need on its sheet.
 pub const LEAST_PLACES: usize = 8;
+
+// What a task does in one step.
+trait Work {
+    type Found;
+
+    ghost tree: { Self → ℕ → TaskView → Interaction (TaskView × Self.Found) };
+
+    fn run<H: Host, T: Terminal>(self, step: &mut Step<'_, '_, '_, '_, H, T>) -> Self::Found
+        requires { Room 8 step.old }
+        ensures { Performs H.Host T.Terminal 8 (tree self step.old.time (task_of step.old)) step.old (task_of step.new, result) step.new };
+}
+
+impl Work for Control {
+    type Found = Outcome;
+
+    ghost tree = { λ c. Tree.control c };
+
+    fn run<H: Host, T: Terminal>(self, step: &mut Step<'_, '_, '_, '_, H, T>) -> Outcome {
+        step.carry_out(self)
+    }
+}
+
+// A poll of the child.
+#[derive(Drop)]
+struct Polling;
+
+impl Work for Polling {
+    type Found = PollOutcome;
+
+    ghost tree = { λ _. Tree.poll_child };
+
+    fn run<H: Host, T: Terminal>(self, step: &mut Step<'_, '_, '_, '_, H, T>) -> PollOutcome {
+        step.poll_child()
+    }
+}
+
+// Does the work; what it ends with, and how many records were written. None where the sheet has fewer than 8 places.
+fn conduct<W: Work + Drop, H: Host, T: Terminal>(
+    task: &mut Task,
+    host: &mut H,
+    terminal: &mut T,
+    sheet: &mut [Record],
+    work: W,
+    time: u64,
+) -> Option<(W::Found, usize)>
+    ensures { Offered H.Host T.Terminal (W.tree work time (task_view task.old)) task.old (record { host = host.old; terminal = terminal.old }) sheet.old result task.new (record { host = host.new; terminal = terminal.new }) sheet.new }
+{
+    if sheet.len() < LEAST_PLACES {
+        return None;
+    }
+    let mut step = Step {
+        task,
+        host,
+        terminal,
+        sheet,
+        used: 0,
+        time,
+    };
+    let found = work.run(&mut step);
+    Some((found, step.used))
+}
 
 // Carries a control out; its outcome, and how many records were written. None where the sheet has fewer than 8 places.
 pub fn control<H: Host, T: Terminal>(
@@ -25,17 +89,7 @@ pub fn control<H: Host, T: Terminal>(
 ) -> Option<(Outcome, usize)>
     ensures { Offered H.Host T.Terminal (Tree.control control time (task_view task.old)) task.old (record { host = host.old; terminal = terminal.old }) sheet.old result task.new (record { host = host.new; terminal = terminal.new }) sheet.new }
 {
-    if sheet.len() < LEAST_PLACES {
-        return None;
-    }
-    let mut out = Outside {
-        host,
-        terminal,
-        sheet,
-        used: 0,
-    };
-    let outcome = parts::carry_out(task, &mut out, control, time);
-    Some((outcome, out.used))
+    conduct(task, host, terminal, sheet, control, time)
 }
 
 // Polls the child; what was found, and how many records were written. None where the sheet has fewer than 8 places.
@@ -48,15 +102,5 @@ pub fn poll<H: Host, T: Terminal>(
 ) -> Option<(PollOutcome, usize)>
     ensures { Offered H.Host T.Terminal (Tree.poll_child time (task_view task.old)) task.old (record { host = host.old; terminal = terminal.old }) sheet.old result task.new (record { host = host.new; terminal = terminal.new }) sheet.new }
 {
-    if sheet.len() < LEAST_PLACES {
-        return None;
-    }
-    let mut out = Outside {
-        host,
-        terminal,
-        sheet,
-        used: 0,
-    };
-    let outcome = parts::poll_child(task, &mut out, time);
-    Some((outcome, out.used))
+    conduct(task, host, terminal, sheet, Polling, time)
 }

@@ -4,6 +4,6 @@
 mod asking;
 pub mod conduct;
 pub mod messages;
-mod outside;
 mod parts;
+mod step;
 pub mod task;

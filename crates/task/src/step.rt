@@ -1,0 +1,15 @@
+// One step of a task: the task, what is lent to it, and the time of the step.
+use crate::task::Task;
+use host::journal::Record;
+
+#[derive(Drop)]
+pub struct Step<'k, 'h, 't, 's, H, T> {
+    pub task: &'k mut Task,
+    pub host: &'h mut H,
+    pub terminal: &'t mut T,
+    // Calls are recorded on it.
+    pub sheet: &'s mut [Record],
+    // The places of the sheet that are written.
+    pub used: usize,
+    pub time: u64,
+}
