@@ -5,4 +5,4 @@ use Rattle.ring.specs.declared.queue.Queue.{Queue}
 
 -- a queue of `n` slots holds at most `n` items
 pub held_fits : {X : Type 0} {n : ℕ} (q : Queue X n) → length (held q) ≤ n
-held_fits q = omega arith
+held_fits q = grind arith

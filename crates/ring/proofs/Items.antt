@@ -1,12 +1,13 @@
 -- What a ring holds: its items one by one, after a slot is written, and after the oldest is taken.
-use Rattle.std.proofs.Common.{◌≡◌, ℕ, suc, ◌+◌, ◌-◌, ◌%◌, ◌<◌, ◌≤◌, List, [], ◌∷◌, ◌++◌, length, get_or, take, drop, set, Some, sym, ap, ◌∙◌, inl, inr, append_assoc, mod-eq_of_lt, arith, length-append, length-drop, length-take}
+use Rattle.std.proofs.Common.{◌≡◌, ℕ, suc, ◌+◌, ◌-◌, ◌%◌, ◌<◌, ◌≤◌, List, [], ◌∷◌, ◌++◌, length, get_or, take, drop, set, min, Some, sym, ap, ◌∙◌, inl, inr, append_assoc, mod-eq_of_lt, arith, length-append, length-drop, length-take}
 use Rattle.ring.specs.Ring.{items, one_less, one_more, place}
 use Rattle.ring.specs.declared.slots.Ring.{Ring}
 use Rattle.std.proofs.lemmas.List.{append-nil, drop_all, drop_more, drop-set-add, drop-set-lt, get_or_append_left, get_or-append_right, get_or-drop, get_or-take, set-append_left, set-append_right, take_all, take-append-le, take_more, take_more_set, take-set-le}
 use Rattle.std.proofs.lemmas.Option.{slice_get-get_or}
 use Rattle.std.proofs.lemmas.Bool.{cases_lt}
 use Rattle.std.specs.List.{slice_get}
-use lib.Seq.{take-set-lt}
+use Rattle.std.proofs.lemmas.Grind.{common_steps}
+use lib.Seq.{take-append-add, take-set-lt}
 use native.Mathlib.Nat.{mod-eq-sub-mod}
 
 -- a place is the sum where that is a slot, else the sum less the number of slots
@@ -76,3 +77,11 @@ module _ {X : Type 0} (s : List X) (ring : Ring) (a : ring.head < length s) wher
   items-nth i d b l =
       let k : i < length (items s ring) = rw (length-items s ring l) b in
       slice_get-get_or (items s ring) i d k ∙ ap Some (get_or-take ring.len (turned s ring.head) i d b ∙ turned-at s ring.head a i d (omega arith))
+
+-- the first `n` of two lists in a row are the first of the one, then those of the other that are left to take
+pub take_split : {X : Type 0} (n : ℕ) (xs ys : List X) → take n (xs ++ ys) ≡ take (min n (length xs)) xs ++ take (n - min n (length xs)) ys
+take_split n xs ys =
+    elim (cases_lt n (length xs)) [
+      | inl below ↦ grind (arith, common_steps)
+      | inr past ↦ (let split = take-append-add xs ys (n - length xs) in let e : length xs + (n - length xs) ≡ n = omega arith in grind (arith, common_steps, take_all (length xs) xs))
+    ]

@@ -51,7 +51,8 @@ fn first_in_first_out(rt: HostRuntime) {
     assert_eq!(rt; queue.pop(), Some('a'));
     assert!(rt; queue.push('d'));
     assert_eq!(rt; queue.room(), 0);
-    assert_eq!(rt; queue.items(), (['b', 'd'], 2));
+    let (front, back) = queue.as_slices();
+    assert_eq!(rt; (front, back), (['b'].as_slices(), ['d'].as_slices()));
     queue.clear();
     assert_eq!(rt; queue.room(), 2);
     assert_eq!(rt; queue.pop(), None);

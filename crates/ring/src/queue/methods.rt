@@ -1,5 +1,5 @@
 // What a queue does, told by the list of what it holds.
-ghost use Rattle.std.specs.Prelude.{◌≡◌, ◌-◌, [], ◌∷◌, ◌++◌, length, take, if◌then◌else◌, nat_lt};
+ghost use Rattle.std.specs.Prelude.{◌≡◌, ◌-◌, [], ◌∷◌, ◌++◌, length, if◌then◌else◌, nat_lt};
 ghost use Rattle.ring.specs.Queue.{held};
 ghost use Rattle.ring.specs.Ring.{first, rest};
 
@@ -13,23 +13,16 @@ impl<T: Copy, const N: usize> Queue<T, N> {
         ensures { held result ≡ [] }
     {
         Queue {
-            slots: slots::filled(blank),
+            slots: [blank; N],
             marks: Ring::EMPTY,
         }
-    }
-
-    // How many items wait.
-    fn len(&self) -> usize
-        ensures { result ≡ length (held self.now) }
-    {
-        self.marks.len
     }
 
     // How many items more it can take.
     pub fn room(&self) -> usize
         ensures { result ≡ N - length (held self.now) }
     {
-        N - self.len()
+        N - self.marks.len
     }
 
     // One item more at the end, or false where every slot is taken.
@@ -37,12 +30,7 @@ impl<T: Copy, const N: usize> Queue<T, N> {
         ensures answer { result ≡ nat_lt (length (held self.old)) N }
         ensures after { held self.new ≡ held self.old ++ (if result then x ∷ [] else []) }
     {
-        if self.room() == 0 {
-            return false;
-        }
-        let at = slots::claim(&self.slots, &mut self.marks);
-        self.slots[at] = x;
-        true
+        slots::put(&mut self.slots, &mut self.marks, x)
     }
 
     // The oldest item, which leaves the queue, or none where it is empty.
@@ -60,12 +48,10 @@ impl<T: Copy, const N: usize> Queue<T, N> {
         self.marks = Ring::EMPTY;
     }
 
-    // The items, oldest first, at the front of an array, and how many there are.
-    pub fn items(&self) -> ([T; N], usize)
-        ensures full { length result.0 ≡ N }
-        ensures count { result.1 ≡ length (held self.now) }
-        ensures items { take result.1 result.0 ≡ held self.now }
+    // The items, oldest first: those of the first slice, then those of the second.
+    pub fn as_slices(&self) -> (&[T], &[T])
+        ensures { result.0.now ++ result.1.now ≡ held self.now }
     {
-        (slots::in_order(&self.slots, &self.marks), self.len())
+        slots::halves(&self.slots, &self.marks)
     }
 }
