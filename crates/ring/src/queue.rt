@@ -1,20 +1,18 @@
 // A bounded queue that owns its slots.
-ghost use Rattle.std.specs.Prelude.{◌≡◌, length, IsTrue};
-ghost use Rattle.ring.specs.Ring.{fits, items};
+ghost use Rattle.std.specs.Prelude.{◌≡◌, ◌-◌, [], ◌∷◌, ◌++◌, length, if◌then◌else◌, nat_lt, IsTrue};
+ghost use Rattle.ring.specs.Ring.{first, fits, rest};
 
+use crate::slots;
 use crate::slots::Ring;
 use std::alloc::AllocError;
 
-mod methods;
-
-// At most N items, first in, first out. `counted` lets a caller see that `len` is how many there are.
+// At most N items, first in, first out. Clauses see them through `held`, and not through an `impl Model`, which would
+// hide the slots, so that `self.new ≡ self.old` of a struct with a queue in it would say less.
 #[derive(Copy)]
 pub struct Queue<T, const N: usize> {
     slots: [T; N],
     marks: Ring,
-    ghost full: { length slots ≡ N },
     ghost within: { IsTrue (fits N marks) },
-    ghost counted: { length (items slots marks) ≡ marks.len },
 }
 
 // By hand, since `Clone` can't be derived for a struct with ghost fields.
@@ -25,5 +23,56 @@ impl<T: Copy, const N: usize> Clone for Queue<T, N> {
 
     fn clone(&self) -> Result<Queue<T, N>, AllocError> {
         Ok(*self)
+    }
+}
+
+impl<T: Copy, const N: usize> Queue<T, N> {
+    ghost use Rattle.ring.specs.Queue.{held};
+
+    // An empty queue; `blank` fills its slots.
+    pub fn new(blank: T) -> Self
+        ensures { held result ≡ [] }
+    {
+        Queue {
+            slots: [blank; N],
+            marks: Ring::EMPTY,
+        }
+    }
+
+    // How many items more it can take.
+    pub fn room(&self) -> usize
+        ensures { result ≡ N - length (held self.now) }
+    {
+        N - self.marks.len
+    }
+
+    // One item more at the end, or false where every slot is taken.
+    pub fn push(&mut self, x: T) -> bool
+        ensures answer { result ≡ nat_lt (length (held self.old)) N }
+        ensures after { held self.new ≡ held self.old ++ (if result then x ∷ [] else []) }
+    {
+        slots::put(&mut self.slots, &mut self.marks, x)
+    }
+
+    // The oldest item, which leaves the queue, or none where it is empty.
+    pub fn pop(&mut self) -> Option<T>
+        ensures answer { result ≡ first (held self.old) }
+        ensures after { held self.new ≡ rest (held self.old) }
+    {
+        slots::take(&self.slots, &mut self.marks)
+    }
+
+    // Lets every item go.
+    pub fn clear(&mut self)
+        ensures { held self.new ≡ [] }
+    {
+        self.marks = Ring::EMPTY;
+    }
+
+    // The items, oldest first: those of the first slice, then those of the second.
+    pub fn as_slices(&self) -> (&[T], &[T])
+        ensures { result.0.now ++ result.1.now ≡ held self.now }
+    {
+        slots::halves(&self.slots, &self.marks)
     }
 }
