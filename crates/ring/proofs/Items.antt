@@ -9,8 +9,8 @@ use lib.Seq.{take-append-add, take-set-lt}
 use native.Mathlib.Nat.{mod-eq-sub-mod}
 
 -- the first `n` of two lists in a row are the first of the one, then those of the other that are left to take
-pub take-append : {X : Type 0} (n : ℕ) (xs ys : List X) → take n (xs ++ ys) ≡ take (min n (length xs)) xs ++ take (n - min n (length xs)) ys
-take-append n xs ys =
+pub take_in_two : {X : Type 0} (n : ℕ) (xs ys : List X) → take n (xs ++ ys) ≡ take (min n (length xs)) xs ++ take (n - min n (length xs)) ys
+take_in_two n xs ys =
     elim (cases_lt n (length xs)) [
       | inl below ↦ grind (arith, common_steps)
       | inr past ↦ (let e : length xs + (n - length xs) ≡ n = omega arith in grind (arith, common_steps, take_all, take-append-add xs ys (n - length xs)))
@@ -28,7 +28,7 @@ module _ {X : Type 0} (slots : List X) (ring : Ring) (within : ring.head < lengt
   -- an item that is written to the slot after the last one is held at the end
   pub items_after_put : (x : X) → ring.len < length slots → items (set slots ((ring.head + ring.len) % length slots) x) (one_more ring) ≡ items slots ring ++ x ∷ []
   items_after_put x room =
-      grind (arith, common_steps, wraps_once (length slots) ring.head ring.len within (omega arith), drop-set-add, drop-set-lt, take_more_set, take-append, take-set-le, take-set-lt)
+      grind (arith, common_steps, wraps_once (length slots) ring.head ring.len within (omega arith), drop-set-add, drop-set-lt, take_more_set, take_in_two, take-set-le, take-set-lt)
 
   -- the slots read from the one after the head on: the head comes last
   next_turn : (d : X) → drop ((ring.head + 1) % length slots) slots ++ take ((ring.head + 1) % length slots) slots ≡ (drop (ring.head + 1) slots ++ take ring.head slots) ++ get_or slots ring.head d ∷ []

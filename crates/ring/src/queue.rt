@@ -6,12 +6,15 @@ use crate::slots;
 use crate::slots::Ring;
 use std::alloc::AllocError;
 
-// At most N items, first in, first out. Clauses see them through `held`, and not through an `impl Model`, which would
-// hide the slots, so that `self.new ≡ self.old` of a struct with a queue in it would say less.
+// At most N items, first in, first out.
+// It has no `impl Model`: that would forget the slots, so `self.new ≡ self.old` of what holds a queue would say less.
 #[derive(Copy)]
 pub struct Queue<T, const N: usize> {
     slots: [T; N],
     marks: Ring,
+
+    // The array's type says this of each queue in code; here it is said to lemmas too.
+    ghost full: { length slots ≡ N },
     ghost within: { IsTrue (fits N marks) },
 }
 
@@ -73,6 +76,6 @@ impl<T: Copy, const N: usize> Queue<T, N> {
     pub fn as_slices(&self) -> (&[T], &[T])
         ensures { result.0.now ++ result.1.now ≡ held self.now }
     {
-        slots::halves(&self.slots, &self.marks)
+        slots::as_slices(&self.slots, &self.marks)
     }
 }

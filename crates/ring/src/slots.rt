@@ -14,7 +14,7 @@ impl Ring {
     pub const EMPTY: Ring = Ring { head: 0, len: 0 };
 }
 
-// Of `size` slots, the one that is `n` after `head`. No sum is made that may pass `size`, which may be near 2^64.
+// Of `size` slots, the one that is `n` after `head`. It subtracts first, since the sum may pass 2^64.
 fn slot_after(size: usize, head: usize, n: usize) -> usize
     requires head { head < size }
     requires n { n ≤ size }
@@ -25,6 +25,7 @@ fn slot_after(size: usize, head: usize, n: usize) -> usize
 }
 
 // Puts an item at the end, or answers false where no slot is free or the marks lie outside the slots.
+#[tactic(auto, using(crate::proofs::Items::items_after_put))]
 pub fn put<T: Copy>(slots: &mut [T], ring: &mut Ring, x: T) -> bool
     ensures answer { result ≡ has_room (length slots.old) ring.old }
     ensures slots { slots.new ≡ (if result then slice_set slots.old (place (length slots.old) ring.old) x else slots.old) }
@@ -42,6 +43,7 @@ pub fn put<T: Copy>(slots: &mut [T], ring: &mut Ring, x: T) -> bool
 }
 
 // The oldest item, which leaves the ring, or none where it is empty or its marks lie outside the slots.
+#[tactic(auto, using(crate::proofs::Items::items_before_take))]
 pub fn take<T: Copy>(slots: &[T], ring: &mut Ring) -> Option<T>
     ensures answer { result ≡ oldest slots.now ring.old }
     ensures marks { ring.new ≡ (if has_item (length slots.now) ring.old then one_less (length slots.now) ring.old else ring.old) }
@@ -57,12 +59,13 @@ pub fn take<T: Copy>(slots: &[T], ring: &mut Ring) -> Option<T>
     Some(x)
 }
 
-// The items, oldest first: those from the head on, then those that lie in the first slots.
-pub(crate) fn halves<'a, T>(slots: &'a [T], ring: &Ring) -> (&'a [T], &'a [T])
+// The items, oldest first: those from the head to the last slot, then those from the first slot on.
+#[tactic(auto, using(crate::proofs::Items::take_in_two))]
+pub(crate) fn as_slices<'a, T>(slots: &'a [T], ring: &Ring) -> (&'a [T], &'a [T])
     requires { IsTrue (fits (length slots.now) ring.now) }
     ensures { result.0.now ++ result.1.now ≡ items slots.now ring.now }
 {
-    let (low, high) = slots.split_at(ring.head);
-    let count = ring.len.min(high.len());
-    (&high[..count], &low[..ring.len - count])
+    let (before, from_head) = slots.split_at(ring.head);
+    let count = ring.len.min(from_head.len());
+    (&from_head[..count], &before[..ring.len - count])
 }
