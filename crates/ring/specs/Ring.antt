@@ -1,5 +1,5 @@
 -- A ring: items that lie one after another in a row of slots, from the last slot on to the first.
-use Rattle.std.specs.Prelude.{ℕ, ◌+◌, ◌-◌, ◌%◌, ◌≤◌, Bool, cond, ◌&&◌, List, [], ◌∷◌, ◌++◌, length, take, drop, Some, None, Option, nat_le, nat_lt}
+use Rattle.std.specs.Prelude.{ℕ, ◌+◌, ◌-◌, ◌%◌, Bool, if◌then◌else◌, ◌&&◌, List, [], ◌∷◌, ◌++◌, take, drop, length, Some, None, Option, nat_le, nat_lt}
 use Rattle.ring.specs.declared.slots.Ring.{Ring}
 
 -- the first of a list, if it has one
@@ -15,10 +15,6 @@ rest (x ∷ xs) = xs
 -- what a ring holds, oldest first
 abbrev pub items : {X : Type 0} → List X → Ring → List X
 items slots ring = take ring.len (drop ring.head slots ++ take ring.head slots)
-
--- the marks lie within `size` slots
-abbrev pub Within : ℕ → Ring → Type 0
-Within size ring = (ring.len ≤ size) × (ring.head ≤ size - 1)
 
 -- whether the marks lie within `size` slots
 abbrev pub fits : ℕ → Ring → Bool
@@ -38,16 +34,16 @@ place size ring = (ring.head + ring.len) % size
 
 -- the marks with one item more at the end
 abbrev pub one_more : Ring → Ring
-one_more ring = record { head = ring.head; len = ring.len + 1 }
+one_more ring = record ring { len = ring.len + 1 }
 
 -- the marks without the oldest item, whose slot the head then has just passed
 abbrev pub one_less : ℕ → Ring → Ring
-one_less size ring = record { head = place size (record { head = ring.head; len = 1 }); len = ring.len - 1 }
+one_less size ring = record { head = (ring.head + 1) % size; len = ring.len - 1 }
 
 -- what a take answers: the oldest item, where the marks lie within the slots
 abbrev pub oldest : {X : Type 0} → List X → Ring → Option X
-oldest slots ring = cond (fits (length slots) ring) (first (items slots ring)) None
+oldest slots ring = if fits (length slots) ring then first (items slots ring) else None
 
 -- what a take leaves: all but the oldest item, where the marks lie within the slots
 abbrev pub newer : {X : Type 0} → List X → Ring → List X
-newer slots ring = cond (fits (length slots) ring) (rest (items slots ring)) (items slots ring)
+newer slots ring = if fits (length slots) ring then rest (items slots ring) else items slots ring

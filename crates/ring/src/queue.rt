@@ -1,22 +1,24 @@
 // A bounded queue that owns its slots.
-ghost use Rattle.ring.specs.Ring.{Within, items};
-ghost use Rattle.std.specs.Prelude.{◌≡◌, length};
+ghost use Rattle.std.specs.Prelude.{◌≡◌, ◌-◌, [], ◌∷◌, ◌++◌, length, if◌then◌else◌, nat_lt, IsTrue};
+ghost use Rattle.ring.specs.Ring.{first, fits, rest};
 
+use crate::slots;
 use crate::slots::Ring;
 use std::alloc::AllocError;
 
-mod methods;
-
-// At most N items, first in, first out. `counted` lets a caller see that `len` is how many there are.
+// At most N items, first in, first out.
+// It has no `impl Model`: that would forget the slots, so `self.new ≡ self.old` of what holds a queue would say less.
+#[derive(Copy)]
 pub struct Queue<T, const N: usize> {
     slots: [T; N],
     marks: Ring,
+
+    // The array's type says this of each queue in code; here it is said to lemmas too.
     ghost full: { length slots ≡ N },
-    ghost within: { Within N marks },
-    ghost counted: { length (items slots marks) ≡ marks.len },
+    ghost within: { IsTrue (fits N marks) },
 }
 
-// By hand, since a struct that has ghost fields and a type parameter derives no `Clone`.
+// By hand, since `Clone` can't be derived for a struct with ghost fields.
 impl<T: Copy, const N: usize> Clone for Queue<T, N> {
     ghost is_clone = { λ x y. y ≡ x };
 
@@ -27,4 +29,53 @@ impl<T: Copy, const N: usize> Clone for Queue<T, N> {
     }
 }
 
-impl<T: Copy, const N: usize> Copy for Queue<T, N> {}
+impl<T: Copy, const N: usize> Queue<T, N> {
+    ghost use Rattle.ring.specs.Queue.{held};
+
+    // An empty queue; `blank` fills its slots.
+    pub fn new(blank: T) -> Self
+        ensures { held result ≡ [] }
+    {
+        Queue {
+            slots: [blank; N],
+            marks: Ring::EMPTY,
+        }
+    }
+
+    // How many items more it can take.
+    pub fn room(&self) -> usize
+        ensures { result ≡ N - length (held self.now) }
+    {
+        N - self.marks.len
+    }
+
+    // One item more at the end, or false where every slot is taken.
+    pub fn push(&mut self, x: T) -> bool
+        ensures answer { result ≡ nat_lt (length (held self.old)) N }
+        ensures after { held self.new ≡ held self.old ++ (if result then x ∷ [] else []) }
+    {
+        slots::put(&mut self.slots, &mut self.marks, x)
+    }
+
+    // The oldest item, which leaves the queue, or none where it is empty.
+    pub fn pop(&mut self) -> Option<T>
+        ensures answer { result ≡ first (held self.old) }
+        ensures after { held self.new ≡ rest (held self.old) }
+    {
+        slots::take(&self.slots, &mut self.marks)
+    }
+
+    // Lets every item go.
+    pub fn clear(&mut self)
+        ensures { held self.new ≡ [] }
+    {
+        self.marks = Ring::EMPTY;
+    }
+
+    // The items, oldest first: those of the first slice, then those of the second.
+    pub fn as_slices(&self) -> (&[T], &[T])
+        ensures { result.0.now ++ result.1.now ≡ held self.now }
+    {
+        slots::as_slices(&self.slots, &self.marks)
+    }
+}

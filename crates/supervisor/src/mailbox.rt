@@ -107,8 +107,9 @@ impl Mailbox {
     fn raise_ending(&mut self)
         ensures { mailbox_view self.new ≡ Mail.endings_raised (mailbox_view self.old) }
     {
-        let (ending, count) = self.ending.items();
-        self.tickets.raise_each(&ending[0..count]);
+        let (older, newer) = self.ending.as_slices();
+        self.tickets.raise_each(older);
+        self.tickets.raise_each(newer);
         self.ending.clear();
     }
 
