@@ -1,8 +1,10 @@
 -- What raising, issuing and vacating do to a ticket table: to its weights, its length and its marks.
-use Rattle.std.proofs.Common.{◌≡◌, ℕ, suc, ◌+◌, ◌<◌, ◌≤◌, Bool, true, false, cond, not, ◌&&◌, eqb, List, [], ◌∷◌, ◌++◌, length, get_or, set, sym, refl, ap, subst, arith}
-use Rattle.std.specs.List.{prefix_len}
+use Rattle.std.proofs.Common.{◌≡◌, ℕ, suc, ◌+◌, ◌<◌, ◌≤◌, Bool, true, false, cond, not, ◌&&◌, eqb, List, [], ◌∷◌, ◌++◌, length, get_or, set, Some, None, one-add, sym, refl, ap, ◌∙◌, arith}
+use Rattle.std.specs.List.{position_or_len, position, find}
+use Rattle.std.specs.Option.{MatchOption}
 use Rattle.std.proofs.lemmas.Bool.{eqb-true, eq-eqb, cond-true, cond-false}
 use Rattle.std.proofs.lemmas.Bool.Decides.{nat_tests}
+use Rattle.std.proofs.lemmas.List.{set_past}
 use Rattle.tickets.specs.declared.flag.Mark.{Mark}
 use Rattle.tickets.specs.declared.flag.Mark.TheVariants.{Free, Unheld, Held, Raised}
 use Rattle.tickets.specs.declared.flag.Entry.{Entry}
@@ -65,47 +67,33 @@ change_lighter q w p f less (e ∷ es) = step (p e) (change_lighter q w p f less
     step true ih = omega (arith, less e)
     step false ih = omega arith
 
-one_add : (n : ℕ) → 1 + n ≡ suc n
-one_add n = omega arith
-
--- a change, as a search finds it: the first place that p picks is set
-pub change-set : (p : Entry → Bool) (f : Entry → Entry) (es : Table) (d : Entry) → prefix_len (λ e. not (p e)) es < length es → change p f es ≡ set es (prefix_len (λ e. not (p e)) es) (f (get_or es (prefix_len (λ e. not (p e)) es) d))
-change-set p f [] d h = absurd (let z : ⊥ = omega arith in z)
-change-set p f (e ∷ es) d h = step (p e) h (change-set p f es d)
+-- a change sets the first place that p picks; where it picks none, that place is past the end, and nothing is set
+pub change-set : (p : Entry → Bool) (f : Entry → Entry) (es : Table) (d : Entry) → change p f es ≡ set es (position_or_len p es) (f (get_or es (position_or_len p es) d))
+change-set p f [] d = refl
+change-set p f (e ∷ es) d = step (p e) (change-set p f es d)
   where
-    step : (b : Bool) → cond (not b) (1 + prefix_len (λ x. not (p x)) es) 0 < length (e ∷ es) → (prefix_len (λ x. not (p x)) es < length es → change p f es ≡ set es (prefix_len (λ x. not (p x)) es) (f (get_or es (prefix_len (λ x. not (p x)) es) d))) → cond b (f e ∷ es) (e ∷ change p f es) ≡ set (e ∷ es) (cond (not b) (1 + prefix_len (λ x. not (p x)) es) 0) (f (get_or (e ∷ es) (cond (not b) (1 + prefix_len (λ x. not (p x)) es) 0) d))
-    step true k ih = refl
-    step false k ih = rw (one_add (prefix_len (λ x. not (p x)) es)) (ap (λ (xs : Table). e ∷ xs) (ih (omega arith)))
+    step : (b : Bool) → change p f es ≡ set es (position_or_len p es) (f (get_or es (position_or_len p es) d)) → cond b (f e ∷ es) (e ∷ change p f es) ≡ set (e ∷ es) (cond (not b) (1 + position_or_len p es) 0) (f (get_or (e ∷ es) (cond (not b) (1 + position_or_len p es) 0) d))
+    step true ih = refl
+    step false ih = rw one-add (ap (λ (xs : Table). e ∷ xs) ih)
 
-pub change-at : (p : Entry → Bool) (f : Entry → Entry) (es : Table) (d : Entry) (i : ℕ) → i ≡ prefix_len (λ e. not (p e)) es → i < length es → set es i (f (get_or es i d)) ≡ change p f es
-change-at p f es d i e h = subst (λ (k : ℕ). k < length es → set es k (f (get_or es k d)) ≡ change p f es) (sym e) (λ k. sym (change-set p f es d k)) h
+-- where the search finds that place
+pub change-at : (p : Entry → Bool) (f : Entry → Entry) (es : Table) (d : Entry) (i : ℕ) → Some i ≡ position p es → set es i (f (get_or es i d)) ≡ change p f es
+change-at p f es d i e = let at : i ≡ position_or_len p es = grind (arith, nat_tests) in rw at (sym (change-set p f es d))
 
--- where p picks no place, nothing changes
-pub change_none : (p : Entry → Bool) (f : Entry → Entry) (es : Table) (i : ℕ) → i ≡ prefix_len (λ e. not (p e)) es → length es ≤ i → es ≡ change p f es
-change_none p f [] i e h = refl
-change_none p f (x ∷ es) i e h = step (p x) e (change_none p f es (prefix_len (λ y. not (p y)) es) refl)
-  where
-    step : (b : Bool) → i ≡ cond (not b) (1 + prefix_len (λ y. not (p y)) es) 0 → (length es ≤ prefix_len (λ y. not (p y)) es → es ≡ change p f es) → x ∷ es ≡ cond b (f x ∷ es) (x ∷ change p f es)
-    step true k ih = absurd (let z : ⊥ = omega arith in z)
-    step false k ih = ap (λ (xs : Table). x ∷ xs) (ih (omega arith))
+-- and where it finds none
+pub change_none : (p : Entry → Bool) (f : Entry → Entry) (es : Table) → None ≡ position p es → es ≡ change p f es
+change_none p f es e =
+    let past : length es ≤ position_or_len p es = grind (arith, nat_tests) in
+    sym (change-set p f es free_entry ∙ set_past es _ _ past)
 
 -- the mark of the first place that p picks, as a search finds it
-pub mark_by-at : (p : Entry → Bool) (es : Table) (d : Entry) (i : ℕ) → i ≡ prefix_len (λ e. not (p e)) es → i < length es → (get_or es i d).mark ≡ mark_by p es
-mark_by-at p [] d i e h = absurd (let z : ⊥ = omega arith in z)
-mark_by-at p (x ∷ es) d i e h = step (p x) e (mark_by-at p es d (prefix_len (λ y. not (p y)) es) refl)
+pub mark_by-find : (p : Entry → Bool) (es : Table) (m : Mark) → MatchOption (find p es) (m ≡ Free) (λ e. m ≡ e.mark) → m ≡ mark_by p es
+mark_by-find p [] m h = h
+mark_by-find p (e ∷ es) m h = step (p e) h (mark_by-find p es m)
   where
-    step : (b : Bool) → i ≡ cond (not b) (1 + prefix_len (λ y. not (p y)) es) 0 → (prefix_len (λ y. not (p y)) es < length es → (get_or es (prefix_len (λ y. not (p y)) es) d).mark ≡ mark_by p es) → (get_or (x ∷ es) i d).mark ≡ cond b x.mark (mark_by p es)
-    step true k ih = rw k
-    step false k ih = rw (k, one_add (prefix_len (λ y. not (p y)) es)) (ih (omega arith))
-
--- where p picks no place, it is Free
-pub mark_by_none : (p : Entry → Bool) (es : Table) → length es ≤ prefix_len (λ e. not (p e)) es → mark_by p es ≡ Free
-mark_by_none p [] h = refl
-mark_by_none p (x ∷ es) h = step (p x) h (mark_by_none p es)
-  where
-    step : (b : Bool) → length (x ∷ es) ≤ cond (not b) (1 + prefix_len (λ y. not (p y)) es) 0 → (length es ≤ prefix_len (λ y. not (p y)) es → mark_by p es ≡ Free) → cond b x.mark (mark_by p es) ≡ Free
-    step true k ih = absurd (let z : ⊥ = omega arith in z)
-    step false k ih = ih (omega arith)
+    step : (b : Bool) → MatchOption (cond b (Some e) (find p es)) (m ≡ Free) (λ x. m ≡ x.mark) → (MatchOption (find p es) (m ≡ Free) (λ x. m ≡ x.mark) → m ≡ mark_by p es) → m ≡ cond b e.mark (mark_by p es)
+    step true k ih = k
+    step false k ih = ih k
 
 -- A TICKET IS RAISED
 
