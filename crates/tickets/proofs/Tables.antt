@@ -1,15 +1,16 @@
 -- What raising, issuing and vacating do to a ticket table: to its weights, its length and its marks.
-use Rattle.std.proofs.Common.{◌≡◌, ℕ, suc, ◌+◌, ◌<◌, ◌≤◌, Bool, true, false, cond, not, ◌&&◌, eqb, List, [], ◌∷◌, ◌++◌, length, get_or, set, Some, None, one-add, sym, refl, ap, ◌∙◌, arith}
-use Rattle.std.specs.List.{position_or_len, position, find}
-use Rattle.std.specs.Option.{MatchOption}
-use Rattle.std.proofs.lemmas.Bool.{eqb-true, eq-eqb, cond-true, cond-false}
+use Rattle.std.proofs.Common.{◌≡◌, ℕ, ◌+◌, ◌≤◌, Bool, true, false, cond, not, ◌&&◌, eqb, List, [], ◌∷◌, ◌++◌, length, get_or, set, Some, None, one-add, length-set, sym, refl, ap, ◌∙◌, arith}
+use Rattle.std.specs.List.{count_by, position_or_len, position, find}
+use Rattle.std.specs.Option.{option_map_or}
+use Rattle.std.proofs.lemmas.Bool.{eqb-true, cond-false}
 use Rattle.std.proofs.lemmas.Bool.Decides.{nat_tests}
 use Rattle.std.proofs.lemmas.List.{set_past}
+use Rattle.std.proofs.lemmas.List.Recursion.{is_sum_by}
 use Rattle.tickets.specs.declared.flag.Mark.{Mark}
 use Rattle.tickets.specs.declared.flag.Mark.TheVariants.{Free, Unheld, Held, Raised}
 use Rattle.tickets.specs.declared.flag.Entry.{Entry}
 use Rattle.tickets.specs.Weights.{weight, weigh, one_at, each}
-use Rattle.tickets.specs.Tickets.{Table, entry, free_entry, is_free, is_waiting, is_raised, is_taken, raised_place, risen, waits, stands, change, raise, put, vacate, mark_by, found, ticket_room}
+use Rattle.tickets.specs.Tickets.{Table, entry, free_entry, is_free, is_waiting, is_raised, is_taken, raised_place, risen, waits, stands, change, raise, put, vacate, found, free, free_places, ticket_room}
 
 -- WEIGHTS
 
@@ -22,7 +23,7 @@ weigh-each [] = refl
 weigh-each (x ∷ xs) = omega (arith, weigh-each xs)
 
 pub one_at-same : (t : ℕ) → one_at t t ≡ 1
-one_at-same t = cond-true (eqb t t) 1 0 (eq-eqb t t refl)
+one_at-same t = grind (arith, nat_tests)
 
 -- what waits or is raised has a place, and a place has one ticket
 pub taken_parts : (w : ℕ → ℕ) (es : Table) → weight is_waiting w es + weight is_raised w es ≡ weight is_taken w es
@@ -47,16 +48,11 @@ places_few p (e ∷ es) = step (p e.mark) (places_few p es)
 pub waiting_few : (es : Table) → weight is_waiting each es ≤ length es
 waiting_few = places_few is_waiting
 
--- ONE PLACE CHANGES
+-- the free places, as a count gives them
+pub free_places_counted : (es : Table) → free_places es ≡ count_by free es
+free_places_counted es = is_sum_by free_places (λ e. cond (free e) 1 0) refl (λ _ _. refl) es
 
--- the places stay
-pub change-length : (p : Entry → Bool) (f : Entry → Entry) (es : Table) → length (change p f es) ≡ length es
-change-length p f [] = refl
-change-length p f (e ∷ es) = step (p e) (change-length p f es)
-  where
-    step : (b : Bool) → length (change p f es) ≡ length es → length (cond b (f e ∷ es) (e ∷ change p f es)) ≡ length (e ∷ es)
-    step true ih = refl
-    step false ih = omega arith
+-- ONE PLACE CHANGES
 
 -- a change that makes no place heavier makes no table heavier
 change_lighter : (q : Mark → Bool) (w : ℕ → ℕ) (p : Entry → Bool) (f : Entry → Entry) → ((e : Entry) → cond (q (f e).mark) (w (f e).serial) 0 ≤ cond (q e.mark) (w e.serial) 0) → (es : Table) → weight q w (change p f es) ≤ weight q w es
@@ -76,6 +72,10 @@ change-set p f (e ∷ es) d = step (p e) (change-set p f es d)
     step true ih = refl
     step false ih = rw one-add (ap (λ (xs : Table). e ∷ xs) ih)
 
+-- the places stay
+pub change-length : (p : Entry → Bool) (f : Entry → Entry) (es : Table) → length (change p f es) ≡ length es
+change-length p f es = ap length (change-set p f es free_entry) ∙ length-set es _ _
+
 -- where the search finds that place
 pub change-at : (p : Entry → Bool) (f : Entry → Entry) (es : Table) (d : Entry) (i : ℕ) → Some i ≡ position p es → set es i (f (get_or es i d)) ≡ change p f es
 change-at p f es d i e = let at : i ≡ position_or_len p es = grind (arith, nat_tests) in rw at (sym (change-set p f es d))
@@ -86,14 +86,8 @@ change_none p f es e =
     let past : length es ≤ position_or_len p es = grind (arith, nat_tests) in
     sym (change-set p f es free_entry ∙ set_past es _ _ past)
 
--- the mark of the first place that p picks, as a search finds it
-pub mark_by-find : (p : Entry → Bool) (es : Table) (m : Mark) → MatchOption (find p es) (m ≡ Free) (λ e. m ≡ e.mark) → m ≡ mark_by p es
-mark_by-find p [] m h = h
-mark_by-find p (e ∷ es) m h = step (p e) h (mark_by-find p es m)
-  where
-    step : (b : Bool) → MatchOption (cond b (Some e) (find p es)) (m ≡ Free) (λ x. m ≡ x.mark) → (MatchOption (find p es) (m ≡ Free) (λ x. m ≡ x.mark) → m ≡ mark_by p es) → m ≡ cond b e.mark (mark_by p es)
-    step true k ih = k
-    step false k ih = ih k
+-- what a search of the first place that p picks does
+pub ruleset changes = (change-at, change_none)
 
 -- A TICKET IS RAISED
 
@@ -172,7 +166,7 @@ pub vacate_waiting : (t : ℕ) (es : Table) → is_raised (found t es) ≡ true 
 vacate_waiting t [] h w = refl
 vacate_waiting t (e ∷ es) h w = step e.mark (eqb t e.serial) h (λ k. vacate_waiting t es k w)
   where
-    step : (m : Mark) (b : Bool) → is_raised (cond (is_taken m && b) m (found t es)) ≡ true → (is_raised (found t es) ≡ true → weight is_waiting w (vacate t es) ≡ weight is_waiting w es) → weight is_waiting w (cond (is_taken m && b) (free_entry ∷ es) (entry e.serial m ∷ vacate t es)) ≡ cond (is_waiting m) (w e.serial) 0 + weight is_waiting w es
+    step : (m : Mark) (b : Bool) → is_raised (option_map_or (λ x. x.mark) (cond (is_taken m && b) (Some (entry e.serial m)) (find (stands t) es)) Free) ≡ true → (is_raised (found t es) ≡ true → weight is_waiting w (vacate t es) ≡ weight is_waiting w es) → weight is_waiting w (cond (is_taken m && b) (free_entry ∷ es) (entry e.serial m ∷ vacate t es)) ≡ cond (is_waiting m) (w e.serial) 0 + weight is_waiting w es
     step Free b k ih = omega (arith, ih k)
     step Unheld true k ih = absurd (let z : ◌≡◌ {A = ℕ} 0 1 = cc in omega arith)
     step Unheld false k ih = omega (arith, ih k)

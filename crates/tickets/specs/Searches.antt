@@ -1,6 +1,6 @@
 -- What the closures compute that pick a place and change it.
 use Rattle.std.specs.Prelude.{◌≡◌, Bool}
-use Rattle.std.specs.Fn.{Shared, Once, FnReturnsAt, FnOnceReturns}
+use Rattle.std.specs.Fn.{Shared, Once, FnReturnsAt}
 use Rattle.std.specs.Borrow.{Bor}
 use Rattle.tickets.specs.declared.flag.Entry.{Entry}
 

@@ -1,5 +1,7 @@
 -- The ticket table: places, of which each is free or has a ticket.
 use Rattle.std.specs.Prelude.{ℕ, ◌+◌, ◌^◌, Bool, true, false, not, ◌&&◌, if◌then◌else◌, List, [], ◌∷◌, replicate, Some, None, Option, ◌==◌, nat_le, nat_lt}
+use Rattle.std.specs.List.{find, fold}
+use Rattle.std.specs.Option.{option_map_or}
 use Rattle.tickets.specs.declared.flag.Mark.{Mark}
 use Rattle.tickets.specs.declared.flag.Mark.TheVariants.{Free, Unheld, Held, Raised}
 use Rattle.tickets.specs.declared.flag.Entry.{Entry}
@@ -85,8 +87,7 @@ raise t es = change (waits t) risen es
 
 -- each ticket of a list is raised, the first first
 abbrev pub raise_each : List ℕ → Table → Table
-raise_each [] es = es
-raise_each (t ∷ ts) es = raise_each ts (raise t es)
+raise_each ts es = fold (λ table t. raise t table) es ts
 
 -- the ticket t gets the first free place
 abbrev pub put : ℕ → Mark → Table → Table
@@ -96,14 +97,9 @@ put t mark es = change free (λ _. entry t mark) es
 abbrev pub vacate : ℕ → Table → Table
 vacate t es = change (stands t) (λ _. free_entry) es
 
--- the mark of the first place that p picks: Free where it picks none
-abbrev pub mark_by : (Entry → Bool) → Table → Mark
-mark_by p [] = Free
-mark_by p (e ∷ es) = if p e then e.mark else mark_by p es
-
 -- the mark of the ticket t: Free where it has no place
 abbrev pub found : ℕ → Table → Mark
-found t es = mark_by (stands t) es
+found t es = option_map_or (λ e. e.mark) (find (stands t) es) Free
 
 -- NEW TICKETS
 
@@ -119,6 +115,10 @@ free_places es = weight is_free each es
 abbrev pub ticket_room : ℕ → ℕ → Table → Bool
 ticket_room n last es = nat_le n (free_places es) && nat_lt (last + n) (2 ^ 32)
 
--- the next serial is given, if there is room, and its ticket waits in the first free place, held or not
+-- the serial t is given out: its ticket waits in the first free place, held or not
+abbrev pub give : ℕ → Bool → TicketsView → TicketsView
+give t held v = record { table = put t (new_mark held) v.table; issued = t }
+
+-- the next serial is given out and answered, if there is room
 abbrev pub issue : Bool → TicketsView → TicketsView × Option ℕ
-issue held v = if ticket_room 1 v.issued v.table then (record { table = put (v.issued + 1) (new_mark held) v.table; issued = v.issued + 1 }, Some (v.issued + 1)) else (v, None)
+issue held v = if ticket_room 1 v.issued v.table then (give (v.issued + 1) held v, Some (v.issued + 1)) else (v, None)

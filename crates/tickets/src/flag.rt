@@ -1,17 +1,17 @@
 // The ticket table of a job. A ticket is a flag that is raised once.
 ghost use Rattle.std.specs.Prelude.{◌≡◌, ◌<◌, Bool, IfSome, length};
-ghost use Rattle.std.specs.List.{position};
+ghost use Rattle.std.specs.List.{count_by, find, position};
+ghost use Rattle.std.specs.Option.{option_copied};
 ghost use Rattle.tickets.specs.Searches.{Makes, Tests};
-ghost use Rattle.tickets.specs.Tickets.{change, found, free, free_entry, free_places, fresh, issue, raise, raise_each, risen, stands, ticket_room, vacate, waits};
+ghost use Rattle.tickets.specs.Tickets.{TicketsView, change, found, free, free_entry, fresh, issue, raise, raise_each, risen, stands, ticket_room, vacate, waits};
 ghost use Rattle.tickets.specs.declared.flag.Entry.{Entry};
 
 use std::marker::Model;
 
 // What a place of the table has.
-#[derive(Clone, Copy, PartialEq, Eq, Debug, Default)]
+#[derive(Clone, Copy, PartialEq, Eq, Debug)]
 pub enum Mark {
     // No ticket.
-    #[default]
     Free,
     // A ticket that waits and that nobody holds.
     Unheld,
@@ -21,8 +21,8 @@ pub enum Mark {
     Raised,
 }
 
-// A place of the table. A free one, the default, has serial 0, which is no ticket's.
-#[derive(Clone, Copy, PartialEq, Eq, Debug, Default)]
+// A place of the table. A free one has serial 0, which is no ticket's.
+#[derive(Clone, Copy, PartialEq, Eq, Debug)]
 pub struct Entry {
     pub serial: u32,
     pub mark: Mark,
@@ -79,6 +79,7 @@ fn place<P: Fn(&Entry) -> bool>(entries: &[Entry], passes: P) -> Option<usize>
 }
 
 // Changes the first place that `passes` picks, or nothing where it picks none.
+#[tactic(auto, using(crate::proofs::Tables::changes))]
 fn change<P: Fn(&Entry) -> bool, F: FnOnce(Entry) -> Entry>(entries: &mut [Entry], passes: P, to: F)
     requires passes { P.IsAlwaysCallable passes }
     requires to { F.IsAlwaysCallable to }
@@ -89,9 +90,16 @@ fn change<P: Fn(&Entry) -> bool, F: FnOnce(Entry) -> Entry>(entries: &mut [Entry
     }
 }
 
+// The place of the ticket `serial`.
+fn entry_of(entries: &[Entry], serial: u32) -> Option<&Entry>
+    ensures { option_copied result ≡ find (stands serial) entries.now }
+{
+    entries.iter().find(|e| e.stands(serial))
+}
+
 // How many places are free.
 fn free_places(entries: &[Entry]) -> usize
-    ensures { result ≡ free_places entries.now }
+    ensures { result ≡ count_by free entries.now }
 {
     entries.iter().filter(|e| e.is_free()).count()
 }
@@ -104,9 +112,6 @@ pub struct Tickets {
 }
 
 impl Model for Tickets {
-    ghost use Rattle.std.specs.Prelude.{◌≡◌, length};
-    ghost use Rattle.tickets.specs.Tickets.{TicketsView};
-
     ghost Value = { TicketsView };
 
     ghost view = { λ t. record { table = t.entries; issued = t.issued } };
@@ -128,6 +133,7 @@ impl Tickets {
     }
 
     // Whether `n` more tickets can be given: whether there are places and serials for them.
+    #[tactic(auto, using(crate::proofs::Tables::free_places_counted))]
     pub fn fits(&self, n: usize) -> bool
         ensures { result ≡ ticket_room n self.now.issued self.now.table }
     {
@@ -144,7 +150,11 @@ impl Tickets {
         }
         let serial = self.issued + 1;
         let mark = if held { Mark::Held } else { Mark::Unheld };
-        change(&mut self.entries, Entry::is_free, |_| Entry { serial, mark });
+        change(
+            &mut self.entries,
+            Entry::is_free,
+            |_| Entry { serial, mark },
+        );
         self.issued = serial;
         Some(serial)
     }
@@ -169,10 +179,7 @@ impl Tickets {
     pub fn mark(&self, serial: u32) -> Mark
         ensures { result ≡ found serial self.now.table }
     {
-        self.entries
-            .iter()
-            .find(|e| e.stands(serial))
-            .map_or(Mark::Free, |e| e.mark)
+        entry_of(&self.entries, serial).map_or(Mark::Free, |e| e.mark)
     }
 
     // Frees the place of the ticket `serial`, whatever its mark; nothing changes where it has none.
@@ -198,8 +205,7 @@ mod tests {
         assert_eq!(rt; tickets.issue(true), None);
         tickets.vacate(7);
         assert_eq!(rt; tickets.issue(true), Some(257));
-        let serial = tickets.entries[6].serial;
-        assert_eq!(rt; serial, 257);
+        assert_eq!(rt; tickets.entries[6].serial, 257);
     }
 
     #[test]
@@ -228,8 +234,7 @@ mod tests {
         tickets.raise(1);
         assert_eq!(rt; tickets.mark(1), Mark::Free);
         assert!(rt; tickets.fits(256));
-        let serial = tickets.entries[0].serial;
-        assert_eq!(rt; serial, 0);
+        assert_eq!(rt; tickets.entries[0].serial, 0);
     }
 
     #[test]

@@ -1,4 +1,5 @@
-use Rattle.std.proofs.Common.{refl, rules, of_calls}
+-- The first place that a closure picks.
+use Rattle.std.proofs.Common.{refl}
 use Rattle.std.proofs.lemmas.Iterator.{YieldsList-from_slice}
 use Rattle.std.proofs.lemmas.Iterator.Search.{position_from_yields_List}
 use Rattle.std.proofs.lemmas.Fn.{says_at}
