@@ -3,7 +3,8 @@ use Rattle.std.specs.Prelude.{ℕ, ◌+◌, Bool, if◌then◌else◌, List, [],
 use Rattle.tickets.specs.declared.flag.Mark.{Mark}
 use Rattle.tickets.specs.declared.flag.Entry.{Entry}
 
--- the weight of the places whose mark p picks, where a ticket t weighs w t
+-- the weight of the places whose mark p picks, where a ticket t weighs w t. By recursion, and not by `sum_by`, a fold over
+-- which the inductions of proofs/Tables do not close
 abbrev pub weight : (Mark → Bool) → (ℕ → ℕ) → List Entry → ℕ
 weight p w [] = 0
 weight p w (e ∷ es) = (if p e.mark then w e.serial else 0) + weight p w es

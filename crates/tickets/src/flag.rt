@@ -29,6 +29,7 @@ pub struct Entry {
 }
 
 impl Entry {
+    // No `Default`: a default would not say that the place is free.
     const FREE: Entry = Entry {
         serial: 0,
         mark: Mark::Free,
