@@ -20,7 +20,7 @@ never r e = absurd (let z : ◌≡◌ {A = ℕ} 0 1 = cc in omega arith)
 
 -- the mailbox of an open job is in order
 pub order_of : (j : Job) → j.closed ≡ false → InOrder [] (mailbox_view j.mailbox)
-order_of j e = record { balance = j.balanced e; once = j.once e; later = j.later e; places = j.mailbox.tickets.full }
+order_of j e = record { balance = j.balanced e; once = j.once e; later = j.later e; places = j.full e }
 
 -- where a send lacks nothing, a place is free
 pub free_of : (p : Priority) (m : MailboxView) → None ≡ send_refusal p m → 1 ≤ free_places m.table

@@ -1,5 +1,5 @@
 -- What holds of every job that exists, whatever host and terminal it was lent.
-use Rattle.std.specs.Prelude.{◌≡◌, ℕ, ◌+◌, ◌<◌, ◌≤◌, List, [], ◌∷◌}
+use Rattle.std.specs.Prelude.{◌≡◌, ℕ, ◌+◌, ◌<◌, ◌≤◌, List, [], ◌∷◌, length}
 use Rattle.tickets.specs.Tickets.{is_waiting, is_taken}
 use Rattle.tickets.specs.Weights.{weight, weigh, one_at}
 use Rattle.task.specs.declared.messages.ControlMessage.{ControlMessage}
@@ -29,3 +29,7 @@ Once m = (s : ℕ) → weight is_taken (one_at s) m.table ≤ 1
 -- and none before it is issued
 abbrev pub Later : MailboxView → Type 0
 Later m = (s : ℕ) → m.issued < s → weight is_taken (one_at s) m.table ≡ 0
+
+-- the table has its 256 places
+abbrev pub Full : MailboxView → Type 0
+Full m = length m.table ≡ 256

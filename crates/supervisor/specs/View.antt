@@ -1,6 +1,5 @@
 -- What a job's parts hold, as the definitions speak of it.
 use Rattle.ring.specs.Queue.{held}
-use Rattle.tickets.specs.Views.{table, last_issued}
 use Rattle.supervisor.specs.declared.priority.Queues.{Queues}
 use Rattle.supervisor.specs.declared.priority.Mailbox.{Mailbox}
 use Rattle.supervisor.specs.Mailbox.{QueuesView, MailboxView}
@@ -9,4 +8,4 @@ abbrev pub queues_view : Queues → QueuesView
 queues_view q = record { normal = held q.normal; high = held q.high; urgent = held q.urgent }
 
 abbrev pub mailbox_view : Mailbox → MailboxView
-mailbox_view m = record { queues = queues_view m.queues; ending = held m.ending; issued = last_issued m.tickets; table = table m.tickets }
+mailbox_view m = record { queues = queues_view m.queues; ending = held m.ending; issued = m.tickets.issued; table = m.tickets.table }

@@ -1,1 +1,2 @@
+-- What callers of the tables rely on.
 pub mod Tables

@@ -1,4 +1,4 @@
+-- What the contracts cite.
 pub mod Weights
 pub mod Tickets
 pub mod Searches
-pub mod Views

@@ -1,25 +1,13 @@
--- What the code seeks in the table, and what it makes of the place that it finds.
-use Rattle.std.specs.Prelude.{◌≡◌, ℕ, ◌<◌, ◌≤◌, Bool, not, length, Some, None, Option}
-use Rattle.std.specs.List.{prefix_len}
+-- What the closures compute that pick a place and change it.
+use Rattle.std.specs.Prelude.{◌≡◌, Bool}
+use Rattle.std.specs.Fn.{Shared, Once, FnReturnsAt}
+use Rattle.std.specs.Borrow.{Bor}
 use Rattle.tickets.specs.declared.flag.Entry.{Entry}
-use Rattle.tickets.specs.declared.flag.Sought.{Sought}
-use Rattle.tickets.specs.declared.flag.Sought.TheVariants.{Free, Waiting, Placed}
-use Rattle.tickets.specs.declared.flag.Change.{Change}
-use Rattle.tickets.specs.declared.flag.Change.TheVariants.{Raise, Put}
-use Rattle.tickets.specs.Tickets.{Table, free, waits, stands, risen}
 
--- whether a place is the one sought
-abbrev pub is_sought : Sought → Entry → Bool
-is_sought Free = free
-is_sought (Waiting t) = waits t
-is_sought (Placed t) = stands t
+-- each call of `passes` at a place answers what p says of the place
+abbrev pub Tests : {F : Type 0} → Shared F (Bor Entry × Unit {0}) Bool → F → (Entry → Bool) → Type 0
+Tests g passes p = (e : Entry) (answer : Bool) → FnReturnsAt g passes e answer → answer ≡ p e
 
--- what a place becomes
-abbrev pub made : Change → Entry → Entry
-made Raise = risen
-made (Put e) = λ _. e
-
--- the index of the first place that p picks, if it picks any
-abbrev pub First : (Entry → Bool) → Table → Option ℕ → Type 0
-First p es (Some i) = (i ≡ prefix_len (λ e. not (p e)) es) × (i < length es)
-First p es None = length es ≤ prefix_len (λ e. not (p e)) es
+-- a call of `to` at a place answers the place that f makes of it
+abbrev pub Makes : {F : Type 0} → Once F (Entry × Unit {0}) Entry → F → (Entry → Entry) → Type 0
+Makes g to f = (e answer : Entry) → g.post to (e, tt) answer → answer ≡ f e

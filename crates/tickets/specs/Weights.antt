@@ -1,12 +1,13 @@
 -- Weights: counts of the tickets in a table or a list, where each ticket weighs what is chosen.
-use Rattle.std.specs.Prelude.{ℕ, ◌+◌, Bool, cond, List, [], ◌∷◌, ◌==◌}
+use Rattle.std.specs.Prelude.{ℕ, ◌+◌, Bool, if◌then◌else◌, List, [], ◌∷◌, ◌==◌}
 use Rattle.tickets.specs.declared.flag.Mark.{Mark}
 use Rattle.tickets.specs.declared.flag.Entry.{Entry}
 
--- the weight of the places whose mark p picks, where a ticket t weighs w t
+-- the weight of the places whose mark p picks, where a ticket t weighs w t. By recursion, and not by `sum_by`, a fold over
+-- which the inductions of proofs/Tables do not close
 abbrev pub weight : (Mark → Bool) → (ℕ → ℕ) → List Entry → ℕ
 weight p w [] = 0
-weight p w (e ∷ es) = cond (p e.mark) (w e.serial) 0 + weight p w es
+weight p w (e ∷ es) = (if p e.mark then w e.serial else 0) + weight p w es
 
 -- the weight of a list of tickets
 abbrev pub weigh : (ℕ → ℕ) → List ℕ → ℕ
@@ -15,8 +16,8 @@ weigh w (t ∷ ts) = w t + weigh w ts
 
 -- only the ticket s weighs, 1: the weight is how often s is there
 abbrev pub one_at : ℕ → ℕ → ℕ
-one_at s t = cond (s == t) 1 0
+one_at s t = if s == t then 1 else 0
 
 -- each ticket weighs 1: the weight is how many there are
 abbrev pub each : ℕ → ℕ
-each t = 1
+each _ = 1

@@ -1,8 +1,12 @@
 // The ticket table of a job. A ticket is a flag that is raised once.
+ghost use Rattle.std.specs.Prelude.{◌≡◌, ◌<◌, Bool, IfSome, length};
+ghost use Rattle.std.specs.List.{count_by, find, position};
+ghost use Rattle.std.specs.Option.{option_copied};
+ghost use Rattle.tickets.specs.Searches.{Makes, Tests};
+ghost use Rattle.tickets.specs.Tickets.{TicketsView, change, found, free, free_entry, fresh, issue, raise, raise_each, risen, stands, ticket_room, vacate, waits};
+ghost use Rattle.tickets.specs.declared.flag.Entry.{Entry};
 
-ghost use Rattle.tickets.specs.Searches.{First, is_sought, made};
-ghost use Rattle.tickets.specs.Tickets.{change, found, free_entry, free_places, issue_last, issue_serial, issue_table, mark_by, raise, raise_each, risen, ticket_room, vacate};
-ghost use Rattle.std.specs.Prelude.{◌≡◌, length, replicate};
+use std::marker::Model;
 
 // What a place of the table has.
 #[derive(Clone, Copy, PartialEq, Eq, Debug)]
@@ -18,17 +22,39 @@ pub enum Mark {
 }
 
 // A place of the table. A free one has serial 0, which is no ticket's.
-#[derive(Clone, Copy)]
+#[derive(Clone, Copy, PartialEq, Eq, Debug)]
 pub struct Entry {
     pub serial: u32,
     pub mark: Mark,
 }
 
 impl Entry {
+    // No `Default`: a default would not say that the place is free.
     const FREE: Entry = Entry {
         serial: 0,
         mark: Mark::Free,
     };
+
+    // Whether no ticket has the place.
+    fn is_free(&self) -> bool
+        ensures { result ≡ free self.now }
+    {
+        self.mark == Mark::Free
+    }
+
+    // Whether the ticket waits there.
+    fn waits(&self, serial: u32) -> bool
+        ensures { result ≡ waits serial self.now }
+    {
+        matches!(self.mark, Mark::Unheld | Mark::Held) && serial == self.serial
+    }
+
+    // Whether the ticket has its place there.
+    fn stands(&self, serial: u32) -> bool
+        ensures { result ≡ stands serial self.now }
+    {
+        self.mark != Mark::Free && serial == self.serial
+    }
 
     // The place once its ticket is raised; a ticket that nobody holds leaves its place.
     fn risen(self) -> Entry
@@ -37,52 +63,46 @@ impl Entry {
         match self.mark {
             Mark::Free | Mark::Unheld => Entry::FREE,
             Mark::Held | Mark::Raised => Entry {
-                serial: self.serial,
                 mark: Mark::Raised,
+                ..self
             },
         }
     }
 }
 
-// Which place is sought: a free one, the one where a ticket waits, or the one that a ticket has.
-#[derive(Clone, Copy)]
-enum Sought {
-    Free,
-    Waiting(u32),
-    Placed(u32),
+// The first place that `passes` picks.
+fn place<P: Fn(&Entry) -> bool>(entries: &[Entry], passes: P) -> Option<usize>
+    requires { P.IsAlwaysCallable passes }
+    ensures bound { IfSome result (λ at. at < length entries.now) }
+    ensures first { (p : Entry → Bool) → Tests P.Fn passes p → result ≡ position p entries.now }
+{
+    entries.iter().position(passes)
 }
 
-impl Sought {
-    // Whether the place is the one sought.
-    fn matches(self, e: Entry) -> bool
-        ensures { result ≡ is_sought self e }
-    {
-        match (self, e.mark) {
-            (Sought::Free, Mark::Free) => true,
-            (Sought::Waiting(t), Mark::Unheld | Mark::Held) => t == e.serial,
-            (Sought::Placed(t), Mark::Unheld | Mark::Held | Mark::Raised) => t == e.serial,
-            _ => false,
-        }
+// Changes the first place that `passes` picks, or nothing where it picks none.
+#[tactic(auto, using(crate::proofs::Tables::changes))]
+fn change<P: Fn(&Entry) -> bool, F: FnOnce(Entry) -> Entry>(entries: &mut [Entry], passes: P, to: F)
+    requires passes { P.IsAlwaysCallable passes }
+    requires to { F.IsAlwaysCallable to }
+    ensures { (p : Entry → Bool) (f : Entry → Entry) → Tests P.Fn passes p → Makes F.FnOnce to f → entries.new ≡ change p f entries.old }
+{
+    if let Some(at) = place(entries, passes) {
+        entries[at] = to(entries[at]);
     }
 }
 
-// What is made of a place.
-#[derive(Clone, Copy)]
-enum Change {
-    Raise,
-    Put(Entry),
+// The place of the ticket `serial`.
+fn entry_of(entries: &[Entry], serial: u32) -> Option<&Entry>
+    ensures { option_copied result ≡ find (stands serial) entries.now }
+{
+    entries.iter().find(|e| e.stands(serial))
 }
 
-impl Change {
-    // What becomes of the place.
-    fn made(self, e: Entry) -> Entry
-        ensures { result ≡ made self e }
-    {
-        match self {
-            Change::Raise => e.risen(),
-            Change::Put(new) => new,
-        }
-    }
+// How many places are free.
+fn free_places(entries: &[Entry]) -> usize
+    ensures { result ≡ count_by free entries.now }
+{
+    entries.iter().filter(|e| e.is_free()).count()
 }
 
 // 256 places, and the last serial given out. Serials count from 1 and are never given twice.
@@ -90,14 +110,22 @@ impl Change {
 pub struct Tickets {
     entries: [Entry; 256],
     issued: u32,
-    ghost full: { length entries ≡ 256 },
+}
+
+impl Model for Tickets {
+    ghost Value = { TicketsView };
+
+    ghost view = { λ t. record { table = t.entries; issued = t.issued } };
+
+    ghost invariant = { λ t. length t.entries ≡ 256 };
+
+    ghost inverse = { λ v. record { entries = v.table; issued = v.issued } };
 }
 
 impl Tickets {
     // A table with every place free.
     pub fn new() -> Self
-        ensures entries { result.entries ≡ replicate 256 free_entry }
-        ensures issued { result.issued ≡ 0 }
+        ensures { result ≡ fresh }
     {
         Tickets {
             entries: [Entry::FREE; 256],
@@ -105,105 +133,61 @@ impl Tickets {
         }
     }
 
-    // The first place that is sought.
-    fn find(&self, sought: Sought) -> Option<usize>
-        ensures { First (is_sought sought) self.now.entries result }
-    {
-        for (i, e) in self.entries.iter().enumerate() {
-            if sought.matches(*e) {
-                return Some(i);
-            }
-        }
-        None
-    }
-
-    // The mark of the first place that is sought, `Free` where there is none.
-    fn mark_of(&self, sought: Sought) -> Mark
-        ensures { result ≡ mark_by (is_sought sought) self.now.entries }
-    {
-        match self.find(sought) {
-            Some(at) => self.entries[at].mark,
-            None => Mark::Free,
-        }
-    }
-
-    // Changes the first place that is sought, or nothing where there is none.
-    fn alter(&mut self, sought: Sought, to: Change)
-        ensures entries { self.new.entries ≡ change (is_sought sought) (made to) self.old.entries }
-        ensures issued { self.new.issued ≡ self.old.issued }
-    {
-        if let Some(at) = self.find(sought) {
-            self.entries[at] = to.made(self.entries[at]);
-        }
-    }
-
-    // How many places are free.
-    fn free_places(&self) -> usize
-        ensures { result ≡ free_places self.now.entries }
-    {
-        let mut n = 0;
-        for e in &self.entries {
-            if Sought::Free.matches(*e) {
-                n += 1;
-            }
-        }
-        n
-    }
-
     // Whether `n` more tickets can be given: whether there are places and serials for them.
+    #[tactic(auto, using(crate::proofs::Tables::free_places_counted))]
     pub fn fits(&self, n: usize) -> bool
-        ensures { result ≡ ticket_room n self.now.issued self.now.entries }
+        ensures { result ≡ ticket_room n self.now.issued self.now.table }
     {
-        n <= self.free_places() && n <= (u32::MAX - self.issued) as usize
+        n <= free_places(&self.entries)
+            && u32::try_from(n).is_ok_and(|n| self.issued.checked_add(n).is_some())
     }
 
     // Gives the next serial the first free place; none where there is no place or no serial.
     pub fn issue(&mut self, held: bool) -> Option<u32>
-        ensures answer { result ≡ issue_serial self.old.issued self.old.entries }
-        ensures entries { self.new.entries ≡ issue_table held self.old.issued self.old.entries }
-        ensures issued { self.new.issued ≡ issue_last self.old.issued self.old.entries }
+        ensures { (self.new, result) ≡ issue held self.old }
     {
         if !self.fits(1) {
             return None;
         }
         let serial = self.issued + 1;
         let mark = if held { Mark::Held } else { Mark::Unheld };
-        self.alter(Sought::Free, Change::Put(Entry { serial, mark }));
+        change(
+            &mut self.entries,
+            Entry::is_free,
+            |_| Entry { serial, mark },
+        );
         self.issued = serial;
         Some(serial)
     }
 
     // Raises the waiting ticket `serial`; nothing changes where none waits.
     pub fn raise(&mut self, serial: u32)
-        ensures entries { self.new.entries ≡ raise serial self.old.entries }
-        ensures issued { self.new.issued ≡ self.old.issued }
+        ensures { self.new ≡ record self.old { table = raise serial self.old.table } }
     {
-        self.alter(Sought::Waiting(serial), Change::Raise);
+        change(&mut self.entries, |e| e.waits(serial), Entry::risen);
     }
 
     // Raises each ticket of a list, the first first.
     pub fn raise_each(&mut self, serials: &[u32])
-        ensures entries { self.new.entries ≡ raise_each serials.now self.old.entries }
-        ensures issued { self.new.issued ≡ self.old.issued }
+        ensures { self.new ≡ record self.old { table = raise_each serials.now self.old.table } }
     {
-        for serial in serials {
-            self.raise(*serial);
+        for &serial in serials {
+            self.raise(serial);
         }
     }
 
     // The mark of the ticket `serial`, `Free` where it has no place.
     pub fn mark(&self, serial: u32) -> Mark
-        ensures { result ≡ found serial self.now.entries }
+        ensures { result ≡ found serial self.now.table }
     {
-        self.mark_of(Sought::Placed(serial))
+        entry_of(&self.entries, serial).map_or(Mark::Free, |e| e.mark)
     }
 
     // Frees the place of the ticket `serial`, whatever its mark; nothing changes where it has none.
     pub fn vacate(&mut self, serial: u32)
-        ensures entries { self.new.entries ≡ vacate serial self.old.entries }
-        ensures issued { self.new.issued ≡ self.old.issued }
+        ensures { self.new ≡ record self.old { table = vacate serial self.old.table } }
     {
-        self.alter(Sought::Placed(serial), Change::Put(Entry::FREE));
+        change(&mut self.entries, |e| e.stands(serial), |_| Entry::FREE);
     }
 }
 
@@ -222,8 +206,7 @@ mod tests {
         assert_eq!(rt; tickets.issue(true), None);
         tickets.vacate(7);
         assert_eq!(rt; tickets.issue(true), Some(257));
-        let serial = tickets.entries[6].serial;
-        assert_eq!(rt; serial, 257);
+        assert_eq!(rt; tickets.entries[6].serial, 257);
     }
 
     #[test]
@@ -252,8 +235,7 @@ mod tests {
         tickets.raise(1);
         assert_eq!(rt; tickets.mark(1), Mark::Free);
         assert!(rt; tickets.fits(256));
-        let serial = tickets.entries[0].serial;
-        assert_eq!(rt; serial, 0);
+        assert_eq!(rt; tickets.entries[0].serial, 0);
     }
 
     #[test]

@@ -41,6 +41,7 @@ invariant_of-self-2 g c =
       balanced = λ e. (order e).balance;
       once = λ e. (order e).once;
       later = λ e. (order e).later;
+      full = λ e. (order e).places;
       granted = granted;
       timely = in_time c.args.time _ (job_view j) c.in_default.ensures;
     }

@@ -14,6 +14,7 @@ invariant_of-self c =
       balanced = λ e. (order e).balance;
       once = λ e. (order e).once;
       later = λ e. (order e).later;
+      full = λ e. (order e).places;
       granted = j.granted;
       timely = j.timely;
     }

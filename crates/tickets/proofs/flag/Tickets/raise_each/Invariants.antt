@@ -1,7 +1,8 @@
-use Rattle.std.proofs.Common.{◌≡◌, drop}
+-- What the loop over the tickets keeps.
+use Rattle.std.proofs.Common.{◌≡◌, take}
 use Rattle.tickets.specs.Tickets.{raise_each}
 use Rattle.tickets.proofs.flag.Tickets.raise_each.Given as goal
 
--- the rest of the list, raised, gives what the whole list gives
+-- the tickets so far are raised
 abbrev pub invariant-loop-serial : goal.invariant-loop-serial
-invariant-loop-serial l = (raise_each (drop l.serial-index l.serials) l.self.entries ≡ raise_each l.serials l.initial.self.entries) × (l.self.issued ≡ l.initial.self.issued)
+invariant-loop-serial l = l.self ≡ record l.initial.self { table = raise_each (take l.serial-index l.serials) l.initial.self.table }
