@@ -16,9 +16,10 @@ place n cs = position (λ c. n == c.number) cs
 
 -- AT ITS PLACE
 
+-- what the life, the removal and a new life of the child n are, which stands at i
 pub record Found (n : ℕ) (cs : List Child) (i : ℕ) (d : Child) : Type 0 where
   pub inside : i < length cs
-  pub living : life_of n cs ≡ Some (get_or cs i d).life
+  pub has_life : life_of n cs ≡ Some (get_or cs i d).life
   pub removed : without n cs ≡ remove cs i
   pub changed : (life : Life) → with_life n life cs ≡ set cs i (child (get_or cs i d).number life)
 
@@ -27,7 +28,7 @@ found_first : (n : ℕ) (cs : List Child) (i : ℕ) (d : Child) → i < length c
 found_first n [] i d inside here before = absurd (omega arith)
 found_first n (c ∷ cs) zero d inside here before = record {
   inside = inside;
-  living = cond-true _ _ _ here;
+  has_life = cond-true _ _ _ here;
   removed = cond-true _ _ _ here;
   changed = λ life. cond-true _ _ _ here ∙ ap (λ (m : ℕ). child m life ∷ cs) (eqb-true n c.number here);
 }
@@ -36,11 +37,12 @@ found_first n (c ∷ cs) (suc i) d inside here before =
     let f = found_first n cs i d (omega arith) here (λ k l. before (suc k) (omega arith)) in
     record {
       inside = inside;
-      living = cond-false _ _ _ other ∙ f.living;
+      has_life = cond-false _ _ _ other ∙ f.has_life;
       removed = cond-false _ _ _ other ∙ ap (λ (ds : List Child). c ∷ ds) f.removed;
       changed = λ life. cond-false _ _ _ other ∙ ap (λ (ds : List Child). c ∷ ds) (f.changed life);
     }
 
+-- the child n stands where it was found
 pub found : (n : ℕ) (cs : List Child) (i : ℕ) (d : Child) → place n cs ≡ Some i → Found n cs i d
 found n cs i d e =
     let p = position-Some (λ c. n == c.number) cs i d e in
@@ -48,25 +50,28 @@ found n cs i d e =
 
 -- WHERE IT HAS NO PLACE
 
+-- what they are where no child has the number n
 pub record Missing (n : ℕ) (cs : List Child) : Type 0 where
-  pub lifeless : life_of n cs ≡ None
+  pub no_life : life_of n cs ≡ None
   pub removed : without n cs ≡ cs
   pub changed : (life : Life) → with_life n life cs ≡ cs
 
 missing_all : (n : ℕ) (cs : List Child) → ((k : ℕ) (d : Child) → k < length cs → (n == (get_or cs k d).number) ≡ false) → Missing n cs
-missing_all n [] others = record { lifeless = refl; removed = refl; changed = λ life. refl }
+missing_all n [] others = record { no_life = refl; removed = refl; changed = λ life. refl }
 missing_all n (c ∷ cs) others =
     let other : (n == c.number) ≡ false = others 0 c (omega arith) in
     let m = missing_all n cs (λ k d l. others (suc k) d (omega arith)) in
     record {
-      lifeless = cond-false _ _ _ other ∙ m.lifeless;
+      no_life = cond-false _ _ _ other ∙ m.no_life;
       removed = cond-false _ _ _ other ∙ ap (λ (ds : List Child). c ∷ ds) m.removed;
       changed = λ life. cond-false _ _ _ other ∙ ap (λ (ds : List Child). c ∷ ds) (m.changed life);
     }
 
+-- a list without the child n is searched to its end
 past_end : (n : ℕ) (cs : List Child) → place n cs ≡ None → length cs ≤ position_or_len (λ c. n == c.number) cs
 past_end n cs e = grind (arith, nat_tests)
 
+-- the child n is missing where it was not found
 pub missing : (n : ℕ) (cs : List Child) → place n cs ≡ None → Missing n cs
 missing n cs e =
     let past = past_end n cs e in

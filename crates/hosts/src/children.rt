@@ -34,6 +34,7 @@ pub enum Life {
     Ended(End),
 }
 
+// A default one fills each place of a roster that no child has.
 #[derive(Clone, Copy, Default)]
 pub struct Child {
     pub number: u32,

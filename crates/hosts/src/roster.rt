@@ -98,13 +98,11 @@ impl Roster {
         ensures answer { result ≡ is_living (life_of number (items self.old)) }
         ensures after { held self.new ≡ (with_living number life (items self.old), self.old.next) }
     {
-        match self.life(number) {
-            Some(Life::Going | Life::Stopped) => {
-                self.put(number, life);
-                true
-            }
-            Some(Life::Ended(_)) | None => false,
+        let is_living = matches!(self.life(number), Some(Life::Going | Life::Stopped));
+        if is_living {
+            self.put(number, life);
         }
+        is_living
     }
 
     // The life of a child; one that has ended is taken off, since its end is reported once.

@@ -1,5 +1,5 @@
 // The simulated host: its children are entries in a table, and do what they are told.
-ghost use Rattle.std.specs.Prelude.{◌≡◌, true};
+ghost use Rattle.std.specs.Prelude.{◌≡◌};
 ghost use Rattle.host.specs.Calls as Calls;
 ghost use Rattle.hosts.specs.Children.{is_living, life_of};
 ghost use Rattle.hosts.specs.Simulated.{IsFit, after, answer, book_of, counted, fresh, happened, view};

@@ -1,10 +1,7 @@
-use Rattle.std.proofs.Common.{List, sym, ap, subst, ◌∙◌, ◌<◌, All, arith}
+use Rattle.std.proofs.Common.{List, sym, ap, subst, ◌∙◌, ◌<◌, All}
 use Rattle.hosts.specs.declared.children.Child.{Child}
 use Rattle.hosts.proofs.Places.{found, missing, All-remove}
 use Rattle.hosts.proofs.roster.Roster.strike.Goals as goal
-
-pub invariant_of-self-clause-few : goal.invariant_of-self-clause-few
-invariant_of-self-clause-few c = omega (arith, c.args.self.now.few)
 
 pub invariant_of-self-clause-numbered : goal.invariant_of-self-clause-numbered
 invariant_of-self-clause-numbered c =
