@@ -1,3 +1,2 @@
 pub mod Places
-pub mod Rotation
-pub mod Soundness
+pub mod Null

@@ -1,6 +1,9 @@
 -- The children of the simulated host: a list, in the order of their spawns.
-use Rattle.std.specs.Prelude.{ℕ, ◌^◌, Bool, true, false, cond, ◌&&◌, List, [], ◌∷◌, map, length, Some, None, Option, ◌==◌, nat_le, nat_lt}
-use Rattle.host.specs.declared.state.ProcessEnd.TheVariants.{Exited, Signalled, Continued}
+use Rattle.std.specs.Prelude.{ℕ, ◌^◌, ◌<◌, Bool, true, false, if◌then◌else◌, ◌&&◌, List, [], ◌∷◌, map, length, All, Some, None, Option, ◌==◌, nat_lt}
+use Rattle.host.specs.declared.state.ProcessEnd.{ProcessEnd}
+use Rattle.host.specs.declared.state.ProcessEnd.TheVariants as process
+use Rattle.hosts.specs.declared.children.End.{End}
+use Rattle.hosts.specs.declared.children.End.TheVariants.{Exited, Signalled}
 use Rattle.hosts.specs.declared.children.Life.{Life}
 use Rattle.hosts.specs.declared.children.Life.TheVariants.{Going, Stopped, Ended}
 use Rattle.hosts.specs.declared.children.Child.{Child}
@@ -16,17 +19,17 @@ numbers cs = map (λ c. c.number) cs
 -- the life of the child n, if it is there
 abbrev pub life_of : ℕ → List Child → Option Life
 life_of n [] = None
-life_of n (c ∷ cs) = cond (n == c.number) (Some c.life) (life_of n cs)
+life_of n (c ∷ cs) = if n == c.number then Some c.life else life_of n cs
 
 -- the children without the child n
 abbrev pub without : ℕ → List Child → List Child
 without n [] = []
-without n (c ∷ cs) = cond (n == c.number) cs (c ∷ without n cs)
+without n (c ∷ cs) = if n == c.number then cs else c ∷ without n cs
 
 -- the children once the child n has this life
 abbrev pub with_life : ℕ → Life → List Child → List Child
 with_life n life [] = []
-with_life n life (c ∷ cs) = cond (n == c.number) (child n life ∷ cs) (c ∷ with_life n life cs)
+with_life n life (c ∷ cs) = if n == c.number then child n life ∷ cs else c ∷ with_life n life cs
 
 -- a child is living where it is there and has not ended
 abbrev pub is_living : Option Life → Bool
@@ -37,7 +40,7 @@ is_living (Some (Ended end)) = false
 
 -- the children once the child n has this life, if it is living
 abbrev pub with_living : ℕ → Life → List Child → List Child
-with_living n life cs = cond (is_living (life_of n cs)) (with_life n life cs) cs
+with_living n life cs = if is_living (life_of n cs) then with_life n life cs else cs
 
 -- the children once the child n, which has this life, was asked for its end: one that ended leaves with its report
 abbrev pub reported : ℕ → Option Life → List Child → List Child
@@ -50,19 +53,11 @@ reported n (Some (Ended end)) cs = without n cs
 abbrev pub has_room : ℕ → List Child → Bool
 has_room next cs = nat_lt (length cs) 16 && nat_lt next (2 ^ 31)
 
--- a child that ended did so as a process may: with an exit code, or by a signal from 1 to 31
-abbrev pub is_fit : Life → Bool
-is_fit Going = true
-is_fit Stopped = true
-is_fit (Ended (Exited code)) = nat_le code 255
-is_fit (Ended (Signalled s)) = nat_le 1 s && nat_le s 31
-is_fit (Ended Continued) = false
+-- each child's number is below the next one's
+abbrev pub AreNumbered : ℕ → List Child → Type 0
+AreNumbered next cs = All (λ c. c.number < next) cs
 
--- a child's number is below the next one's, and its life is fit
-abbrev pub is_sound : ℕ → Child → Bool
-is_sound next c = nat_lt c.number next && is_fit c.life
-
--- all of them are
-abbrev pub all_sound : ℕ → List Child → Bool
-all_sound next [] = true
-all_sound next (c ∷ cs) = is_sound next c && all_sound next cs
+-- how a process ended that ended so
+abbrev pub process_end : End → ProcessEnd
+process_end (Exited code) = process.Exited code
+process_end (Signalled s) = process.Signalled s

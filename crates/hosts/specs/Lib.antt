@@ -3,4 +3,3 @@ pub mod Signals
 pub mod Roster
 pub mod Simulated
 pub mod Book
-pub mod Soundness

@@ -1,8 +1,14 @@
 -- What a signal does to a simulated child.
-use Rattle.std.specs.Prelude.{ℕ, ◌/◌, ◌%◌, ◌^◌, Bool, cond, not, ◌&&◌, ◌||◌, ◌==◌, nat_le}
-use Rattle.host.specs.declared.state.ProcessEnd.TheVariants.{Signalled}
+use Rattle.std.specs.Prelude.{ℕ, ◌/◌, ◌%◌, ◌^◌, Bool, if◌then◌else◌, not, ◌&&◌, ◌||◌, ◌==◌, nat_le, Ok, Err, Result}
+use Rattle.hosts.specs.declared.children.End.TheVariants.{Signalled}
 use Rattle.hosts.specs.declared.children.Life.{Life}
 use Rattle.hosts.specs.declared.children.Life.TheVariants.{Going, Stopped, Ended}
+use Rattle.hosts.specs.declared.signals.NoSignal.{NoSignal}
+use Rattle.hosts.specs.declared.signals.NoSignal.TheVariants.{Null, Unknown}
+
+-- the signal of a number from 1 to 31; 0 is the null signal, and a number over 31 is no signal's
+abbrev pub signal_of : ℕ → Result ℕ NoSignal
+signal_of n = if n == 0 then Err Null else if nat_le n 31 then Ok n else Err Unknown
 
 -- bit s of the mask
 abbrev pub bit : ℕ → ℕ → Bool
@@ -15,13 +21,13 @@ ignored mask s = bit mask s && not (s == 9 || s == 18 || s == 19)
 -- a living child continues at 18 and stops at 19 to 22; 0, 17, 23 and 28 do nothing; any other signal ends it
 abbrev pub taken : ℕ → Life → Life
 taken s life =
-    cond (s == 18) Going
-    (cond (nat_le 19 s && nat_le s 22) Stopped
-    (cond (s == 0 || s == 17 || s == 23 || s == 28) life
-    (Ended (Signalled s))))
+    if s == 18 then Going
+    else if nat_le 19 s && nat_le s 22 then Stopped
+    else if s == 0 || s == 17 || s == 23 || s == 28 then life
+    else Ended (Signalled s)
 
 -- the life of a child that a signal was delivered to; an ended one takes no signal
 abbrev pub delivered : ℕ → ℕ → Life → Life
-delivered mask s Going = cond (ignored mask s) Going (taken s Going)
-delivered mask s Stopped = cond (ignored mask s) Stopped (taken s Stopped)
+delivered mask s Going = if ignored mask s then Going else taken s Going
+delivered mask s Stopped = if ignored mask s then Stopped else taken s Stopped
 delivered mask s (Ended end) = Ended end

@@ -1,16 +1,16 @@
 -- The simulated host: what each call is answered, and what the host holds after it.
-use Rattle.std.specs.Prelude.{ℕ, ◌+◌, cond, List, [], ◌∷◌, ◌++◌, Some, None, Ok, Err, Option, Result, nat_le, ⊤}
+use Rattle.std.specs.Prelude.{ℕ, ◌+◌, if◌then◌else◌, List, [], ◌∷◌, ◌++◌, Some, None, Ok, Err, Option, Result, nat_le, ⊤}
 use Rattle.host.specs.Fault.{fault}
 use Rattle.host.specs.declared.fault.Fault.{Fault}
 use Rattle.host.specs.declared.command.SpawnOptions.{SpawnOptions}
 use Rattle.host.specs.declared.state.ProcessEnd.{ProcessEnd}
 use Rattle.host.specs.Calls.{HostCall, spawn, poll, wait, kill, signal, cont, let_go, hook, routine, tell, HostReply}
-use Rattle.host.specs.Books.{HostBook, next_count, spawns_after}
+use Rattle.host.specs.Books.{HostBook, IsEnd, next_count, spawns_after}
 use Rattle.hosts.specs.declared.children.Life.{Life}
 use Rattle.hosts.specs.declared.children.Life.TheVariants.{Going, Stopped, Ended}
 use Rattle.hosts.specs.declared.children.Child.{Child}
 use Rattle.hosts.specs.declared.simulated.SimulatedHost.{SimulatedHost}
-use Rattle.hosts.specs.Children.{child, numbers, life_of, without, with_life, with_living, reported, has_room}
+use Rattle.hosts.specs.Children.{child, numbers, life_of, without, with_life, with_living, reported, has_room, process_end}
 use Rattle.hosts.specs.Signals.{delivered}
 use Rattle.hosts.specs.Roster.{items}
 
@@ -43,23 +43,23 @@ abbrev pub poll_answer : Option Life → Result (Option ProcessEnd) Fault
 poll_answer None = Err (fault 10)
 poll_answer (Some Going) = Ok None
 poll_answer (Some Stopped) = Ok None
-poll_answer (Some (Ended end)) = Ok (Some end)
+poll_answer (Some (Ended end)) = Ok (Some (process_end end))
 
 -- an ended child answers its end; to wait for a living one faults with 4
 abbrev pub wait_answer : Option Life → Result ProcessEnd Fault
 wait_answer None = Err (fault 10)
 wait_answer (Some Going) = Err (fault 4)
 wait_answer (Some Stopped) = Err (fault 4)
-wait_answer (Some (Ended end)) = Ok end
+wait_answer (Some (Ended end)) = Ok (process_end end)
 
 -- a signal over 31 faults with 22
 abbrev pub signal_answer : ℕ → Option Life → Result ⊤ Fault
 signal_answer s None = Err (fault 10)
-signal_answer s (Some life) = cond (nat_le s 31) (Ok tt) (Err (fault 22))
+signal_answer s (Some life) = if nat_le s 31 then Ok tt else Err (fault 22)
 
 -- the answer of each call; a spawn without room faults with 11, kill is signal 9, and cont is signal 18
 abbrev pub answer : Sim → (c : HostCall) → HostReply c
-answer s (spawn program options way time) = cond (has_room s.next s.children) (Ok s.next) (Err (fault 11))
+answer s (spawn program options way time) = if has_room s.next s.children then Ok s.next else Err (fault 11)
 answer s (poll n) = poll_answer (life_of n s.children)
 answer s (wait n) = wait_answer (life_of n s.children)
 answer s (kill n) = signal_answer 9 (life_of n s.children)
@@ -70,16 +70,22 @@ answer s (hook number state previous) = Ok s.options
 answer s (routine number state previous) = Ok tt
 answer s (tell handler code) = Ok tt
 
+-- an end that is answered is one that a process may have
+abbrev pub IsFit : (c : HostCall) → HostReply c → Type 0
+IsFit (poll n) (Ok (Some end)) = IsEnd end
+IsFit (wait n) (Ok end) = IsEnd end
+IsFit c a = ⊤
+
 -- WHAT A CALL LEAVES
 
 -- the children once a signal was sent to the child n, which has this life
 abbrev pub signalled : ℕ → ℕ → ℕ → Option Life → List Child → List Child
 signalled mask s n None cs = cs
-signalled mask s n (Some life) cs = cond (nat_le s 31) (with_life n (delivered mask s life) cs) cs
+signalled mask s n (Some life) cs = if nat_le s 31 then with_life n (delivered mask s life) cs else cs
 
 -- the children after each call
 abbrev pub children_after : Sim → HostCall → List Child
-children_after s (spawn program options way time) = cond (has_room s.next s.children) (s.children ++ child s.next Going ∷ []) s.children
+children_after s (spawn program options way time) = if has_room s.next s.children then s.children ++ child s.next Going ∷ [] else s.children
 children_after s (poll n) = reported n (life_of n s.children) s.children
 children_after s (wait n) = reported n (life_of n s.children) s.children
 children_after s (kill n) = signalled s.mask 9 n (life_of n s.children) s.children
@@ -92,16 +98,12 @@ children_after s (tell handler code) = s.children
 
 -- the next child's number after each call: a spawn that is granted uses one, and none comes back
 abbrev pub next_after : Sim → HostCall → ℕ
-next_after s (spawn program options way time) = cond (has_room s.next s.children) (s.next + 1) s.next
-next_after s (poll n) = s.next
-next_after s (wait n) = s.next
-next_after s (kill n) = s.next
-next_after s (signal n number) = s.next
-next_after s (cont n) = s.next
-next_after s (let_go n) = s.next
-next_after s (hook number state previous) = s.next
-next_after s (routine number state previous) = s.next
-next_after s (tell handler code) = s.next
+next_after s (spawn program options way time) = if has_room s.next s.children then s.next + 1 else s.next
+next_after s c = s.next
+
+-- what is held once one more call is served
+abbrev pub counted : Sim → Sim
+counted s = record s { served = next_count s.served }
 
 -- every call is served, and a spawn counts as one, also if it faults
 abbrev pub after : Sim → HostCall → Sim
@@ -111,4 +113,4 @@ after s c = record { children = children_after s c; next = next_after s c; mask 
 
 -- the child n, if it is living, has another life; nothing else changes, and no call is counted
 abbrev pub happened : ℕ → Life → Sim → Sim
-happened n life s = record { children = with_living n life s.children; next = s.next; mask = s.mask; options = s.options; served = s.served; spawns = s.spawns }
+happened n life s = record s { children = with_living n life s.children }

@@ -1,36 +1,42 @@
-// The children of the simulated host. What is done to them is elsewhere: contracts there cite definitions that name `Roster`,
-// which this file could import only within an `impl`.
-ghost use Rattle.std.specs.Prelude.{◌≡◌, ◌^◌, ◌≤◌, true, length};
-ghost use Rattle.hosts.specs.Children.{all_sound};
+// The children of the simulated host, and how they end.
+ghost use Rattle.std.specs.Prelude.{◌≡◌};
+ghost use Rattle.host.specs.Books.{IsEnd};
+ghost use Rattle.hosts.specs.Children.{process_end};
 
+use crate::signals::Signal;
 use host::state::ProcessEnd;
 
-// The most children that a roster holds.
-pub const MOST: usize = 16;
-
-// A child goes on, is stopped, or has ended.
+// How a child ended: by an exit code, or by a signal.
 #[derive(Clone, Copy)]
-pub enum Life {
-    Going,
-    Stopped,
-    Ended(ProcessEnd),
+pub enum End {
+    Exited(u8),
+    Signalled(Signal),
 }
 
-#[derive(Clone, Copy)]
+// An end is one that a process may have, so it is never `Continued`.
+impl From<End> for ProcessEnd {
+    ghost from_gives = { λ end e. (e ≡ process_end end) × IsEnd e };
+
+    fn from(end: End) -> ProcessEnd {
+        match end {
+            End::Exited(code) => ProcessEnd::Exited(code),
+            End::Signalled(signal) => ProcessEnd::Signalled(signal.number()),
+        }
+    }
+}
+
+// A child goes on, is stopped, or has ended.
+#[derive(Clone, Copy, Default)]
+pub enum Life {
+    #[default]
+    Going,
+    Stopped,
+    Ended(End),
+}
+
+// A default one fills each place of a roster that no child has.
+#[derive(Clone, Copy, Default)]
 pub struct Child {
     pub number: u32,
     pub life: Life,
-}
-
-// The first `len` entries are the children, in the order of their spawns; `next` is the number of the next child.
-#[derive(Drop)]
-pub struct Roster {
-    pub entries: [Child; MOST],
-    pub len: usize,
-    pub next: u32,
-    ghost full: { length entries ≡ 16 },
-    ghost few: { len ≤ 16 },
-    ghost begun: { 100 ≤ next },
-    ghost within: { next ≤ 2 ^ 31 },
-    ghost sound: { all_sound next entries ≡ true },
 }

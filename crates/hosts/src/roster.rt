@@ -1,27 +1,37 @@
-// What is done to the roster of the simulated host.
-ghost use Rattle.std.specs.Prelude.{◌≡◌, ◌+◌, true, [], ◌∷◌, ◌++◌, length, if◌then◌else◌, Some, None, nat_le};
-ghost use Rattle.hosts.specs.Children.{child, has_room, is_fit, is_living, life_of, numbers, reported, with_life, with_living, without};
-ghost use Rattle.hosts.specs.Roster.{Place, is_fit_if, items};
+// The roster of the simulated host.
+ghost use Rattle.std.specs.Prelude.{◌≡◌, ◌^◌, ◌≤◌, length};
+ghost use Rattle.hosts.specs.Children.{AreNumbered};
 
-use crate::children::{Child, Life, MOST, Roster};
+use crate::children::{Child, Life};
+use arrayvec::ArrayVec;
 
-// Fills the entries that no child has: 0 is no child's number.
-const NO_CHILD: Child = Child {
-    number: 0,
-    life: Life::Going,
-};
+// The most children that a roster holds.
+pub const MOST: usize = 16;
 
 // Every child's number is below it.
 const LIMIT: u32 = 1 << 31;
 
+// The children in the order of their spawns, and the number of the next one.
+#[derive(Drop)]
+pub struct Roster {
+    children: ArrayVec<Child, MOST>,
+    next: u32,
+    ghost few: { length children.items ≤ 16 },
+    ghost begun: { 100 ≤ next },
+    ghost within: { next ≤ 2 ^ 31 },
+    ghost numbered: { AreNumbered next children.items },
+}
+
 impl Roster {
+    ghost use Rattle.std.specs.Prelude.{◌≡◌, ◌+◌, [], ◌∷◌, ◌++◌, ◌==◌, length, position, if◌then◌else◌, Some, None, nat_le};
+    ghost use Rattle.hosts.specs.Children.{child, has_room, is_living, life_of, numbers, reported, with_life, with_living, without};
+    ghost use Rattle.hosts.specs.Roster.{held, items};
+
     pub(crate) fn new() -> Self
-        ensures items { items result ≡ [] }
-        ensures next { result.next ≡ 100 }
+        ensures { held result ≡ ([], 100) }
     {
         Roster {
-            entries: [NO_CHILD; MOST],
-            len: 0,
+            children: ArrayVec::new(),
             next: 100,
         }
     }
@@ -29,93 +39,76 @@ impl Roster {
     pub(crate) fn is_full(&self) -> bool
         ensures { result ≡ nat_le 16 (length (numbers (items self.now))) }
     {
-        self.len >= MOST
+        self.children.is_full()
     }
 
     fn place(&self, number: u32) -> Option<usize>
-        ensures { Place number (items self.now) result }
+        ensures { result ≡ position (λ c. number == c.number) (items self.now) }
     {
-        for (i, child) in self.entries[0..self.len].iter().enumerate() {
-            if number == child.number {
-                return Some(i);
-            }
-        }
-        None
+        self.children
+            .iter()
+            .position(|child| child.number == number)
     }
 
     // The life of a child; none where it is off the roster.
     pub(crate) fn life(&self, number: u32) -> Option<Life>
-        ensures is { result ≡ life_of number (items self.now) }
-        ensures fit { is_fit_if result ≡ true }
+        ensures { result ≡ life_of number (items self.now) }
     {
-        match self.place(number) {
-            Some(at) => Some(self.entries[at].life),
-            None => None,
-        }
+        let at = self.place(number)?;
+        Some(self.children[at].life)
     }
 
-    // Adds a child with the next number, that goes on; none where there is no entry or no number left.
+    // Adds a child with the next number, that goes on; none where there is no room or no number left.
     pub(crate) fn add(&mut self) -> Option<u32>
         ensures answer { result ≡ (if has_room self.old.next (items self.old) then Some self.old.next else None) }
-        ensures items { items self.new ≡ (if has_room self.old.next (items self.old) then items self.old ++ child self.old.next Life.Going ∷ [] else items self.old) }
-        ensures next { self.new.next ≡ (if has_room self.old.next (items self.old) then self.old.next + 1 else self.old.next) }
+        ensures after { held self.new ≡ (if has_room self.old.next (items self.old) then (items self.old ++ child self.old.next Life.Going ∷ [], self.old.next + 1) else held self.old) }
     {
         let number = self.next;
-        if self.len >= MOST || number >= LIMIT {
+        if self.children.is_full() || number >= LIMIT {
             return None;
         }
-        self.entries[self.len] = Child {
+        self.children.push(Child {
             number,
             life: Life::Going,
-        };
-        self.len += 1;
+        });
         self.next = number + 1;
         Some(number)
     }
 
     // Gives a child a life; nothing changes where it is off the roster.
     pub(crate) fn put(&mut self, number: u32, life: Life)
-        requires { is_fit life ≡ true }
-        ensures items { items self.new ≡ with_life number life (items self.old) }
-        ensures next { self.new.next ≡ self.old.next }
+        ensures { held self.new ≡ (with_life number life (items self.old), self.old.next) }
     {
         if let Some(at) = self.place(number) {
-            self.entries[at] = Child { number, life };
+            self.children[at].life = life;
         }
     }
 
     // Takes a child off; nothing changes where it is off already.
     pub(crate) fn strike(&mut self, number: u32)
-        ensures items { items self.new ≡ without number (items self.old) }
-        ensures next { self.new.next ≡ self.old.next }
+        ensures { held self.new ≡ (without number (items self.old), self.old.next) }
     {
         if let Some(at) = self.place(number) {
-            self.entries[at..self.len].rotate_left(1);
-            self.len -= 1;
+            self.children.remove(at);
         }
     }
 
     // Gives a living child a life, and answers whether it was living; else nothing changes.
     pub(crate) fn put_living(&mut self, number: u32, life: Life) -> bool
-        requires { is_fit life ≡ true }
         ensures answer { result ≡ is_living (life_of number (items self.old)) }
-        ensures items { items self.new ≡ with_living number life (items self.old) }
-        ensures next { self.new.next ≡ self.old.next }
+        ensures after { held self.new ≡ (with_living number life (items self.old), self.old.next) }
     {
-        match self.life(number) {
-            Some(Life::Going | Life::Stopped) => {
-                self.put(number, life);
-                true
-            }
-            Some(Life::Ended(_)) | None => false,
+        let is_living = matches!(self.life(number), Some(Life::Going | Life::Stopped));
+        if is_living {
+            self.put(number, life);
         }
+        is_living
     }
 
     // The life of a child; one that has ended is taken off, since its end is reported once.
     pub(crate) fn report(&mut self, number: u32) -> Option<Life>
         ensures life { result ≡ life_of number (items self.old) }
-        ensures items { items self.new ≡ reported number result (items self.old) }
-        ensures next { self.new.next ≡ self.old.next }
+        ensures after { held self.new ≡ (reported number result (items self.old), self.old.next) }
     {
         let life = self.life(number);
         if let Some(Life::Ended(_)) = life {

@@ -1,42 +1,89 @@
-// What a signal does to a child of the simulated host.
-ghost use Rattle.std.specs.Prelude.{◌≡◌, ◌≤◌, true};
-ghost use Rattle.hosts.specs.Children.{is_fit};
-ghost use Rattle.hosts.specs.Signals.{bit, delivered, ignored};
+// Signals, and what each does to a child of the simulated host.
+ghost use Rattle.std.specs.Prelude.{◌≡◌, ◌≤◌};
+ghost use Rattle.hosts.specs.Signals.{bit, delivered, ignored, signal_of};
 
-use crate::children::Life;
-use host::state::ProcessEnd;
+use crate::children::{End, Life};
+use std::marker::Model;
 
-fn has_bit(mask: u32, signal: u8) -> bool
-    requires { signal ≤ 31 }
-    ensures { result ≡ bit mask signal }
-{
-    (mask >> signal) & 1 == 1
+pub const KILL: u8 = 9;
+
+pub const CONT: u8 = 18;
+
+pub const STOP: u8 = 19;
+
+// A number from 1 to 31.
+#[derive(Clone, Copy)]
+pub struct Signal {
+    number: u8,
 }
 
-fn is_ignored(mask: u32, signal: u8) -> bool
-    requires { signal ≤ 31 }
-    ensures { result ≡ ignored mask signal }
-{
-    match signal {
-        9 | 18 | 19 => false,
-        _ => has_bit(mask, signal),
+impl Model for Signal {
+    ghost use Rattle.std.specs.Prelude.{ℕ, ◌≤◌};
+
+    ghost Value = { ℕ };
+
+    ghost view = { λ s. s.number };
+
+    ghost invariant = { λ s. (1 ≤ s.number) × (s.number ≤ 31) };
+
+    ghost inverse = { λ n. record { number = n } };
+}
+
+// A number that is no signal's: 0, which is sent only to see whether a child is there, or one over 31.
+#[derive(Clone, Copy)]
+pub enum NoSignal {
+    Null,
+    Unknown,
+}
+
+impl TryFrom<u8> for Signal {
+    type Error = NoSignal;
+
+    ghost try_from_gives = { λ n r. r ≡ signal_of n };
+
+    fn try_from(number: u8) -> Result<Self, NoSignal> {
+        match number {
+            0 => Err(NoSignal::Null),
+            1..=31 => Ok(Signal { number }),
+            _ => Err(NoSignal::Unknown),
+        }
+    }
+}
+
+impl Signal {
+    pub(crate) fn number(self) -> u8
+        ensures is { result ≡ self }
+        ensures low { 1 ≤ result }
+        ensures high { result ≤ 31 }
+    {
+        self.number
+    }
+
+    fn has_bit(self, mask: u32) -> bool
+        ensures { result ≡ bit mask self }
+    {
+        (mask >> self.number) & 1 == 1
+    }
+
+    fn is_ignored(self, mask: u32) -> bool
+        ensures { result ≡ ignored mask self }
+    {
+        !matches!(self.number, KILL | CONT | STOP) && self.has_bit(mask)
     }
 }
 
 impl Life {
     // The life once a signal was delivered.
-    pub(crate) fn delivered(self, mask: u32, signal: u8) -> Life
-        requires { signal ≤ 31 }
-        ensures is { result ≡ delivered mask signal self }
-        ensures fit { is_fit self ≡ true → is_fit result ≡ true }
+    pub(crate) fn delivered(self, mask: u32, signal: Signal) -> Life
+        ensures { result ≡ delivered mask signal self }
     {
-        match (self, signal) {
+        match (self, signal.number()) {
             (Life::Ended(_), _) => self,
-            _ if is_ignored(mask, signal) => self,
-            (_, 18) => Life::Going,
+            _ if signal.is_ignored(mask) => self,
+            (_, CONT) => Life::Going,
             (_, 19..=22) => Life::Stopped,
-            (_, 0 | 17 | 23 | 28) => self,
-            _ => Life::Ended(ProcessEnd::Signalled(signal)),
+            (_, 17 | 23 | 28) => self,
+            _ => Life::Ended(End::Signalled(signal)),
         }
     }
 }

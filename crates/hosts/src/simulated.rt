@@ -1,19 +1,14 @@
 // The simulated host: its children are entries in a table, and do what they are told.
-ghost use Rattle.std.specs.Prelude.{◌≡◌, true};
-ghost use Rattle.std.proofs.Common.{sym, subst, arith, length-take};
+ghost use Rattle.std.specs.Prelude.{◌≡◌};
 ghost use Rattle.host.specs.Calls as Calls;
-ghost use Rattle.host.specs.declared.state.ProcessEnd.TheVariants.{Exited};
-ghost use Rattle.hosts.specs.Children.{is_living, life_of, all_sound};
-ghost use Rattle.hosts.specs.Simulated.{after, answer, book_of, fresh, happened, view, Sim};
-ghost use Rattle.std.proofs.ByRecursion.{All-take};
-ghost use Rattle.host.specs.Calls.{HostReply};
-ghost use Rattle.host.specs.Books.{HostKeeps};
+ghost use Rattle.hosts.specs.Children.{is_living, life_of};
+ghost use Rattle.hosts.specs.Simulated.{IsFit, after, answer, book_of, counted, fresh, happened, view};
 ghost use Rattle.hosts.specs.Roster.{items};
 ghost use Rattle.hosts.specs.Book;
-ghost use Rattle.hosts.specs.Soundness.{Sound, decides_sound};
-ghost use Rattle.std.proofs.lemmas.List.{length-map};
 
-use crate::children::{Life, MOST, Roster};
+use crate::children::{End, Life};
+use crate::roster::{MOST, Roster};
+use crate::signals::{CONT, KILL, NoSignal, Signal};
 use host::command::SpawnOptions;
 use host::fault::Fault;
 use host::process::Host;
@@ -42,28 +37,35 @@ impl SimulatedHost {
         }
     }
 
+    fn count(&mut self)
+        ensures { view self.new ≡ counted (view self.old) }
+    {
+        self.served = self.served.wrapping_add(1);
+    }
+
     fn send(&mut self, child: u32, signal: u8) -> Result<(), Fault>
         ensures answer { result ≡ answer (view self.old) (Calls.signal child signal) }
         ensures after { view self.new ≡ after (view self.old) (Calls.signal child signal) }
     {
-        self.served = self.served.wrapping_add(1);
-        match self.roster.life(child) {
-            None => Err(Fault::NO_CHILD),
-            Some(_) if signal > 31 => Err(Fault::INVALID),
-            Some(life) => {
-                self.roster.put(child, life.delivered(self.mask, signal));
-                Ok(())
-            }
+        self.count();
+        let Some(life) = self.roster.life(child) else {
+            return Err(Fault::NO_CHILD);
+        };
+        match Signal::try_from(signal) {
+            Ok(signal) => self.roster.put(child, life.delivered(self.mask, signal)),
+            Err(NoSignal::Null) => {}
+            Err(NoSignal::Unknown) => return Err(Fault::INVALID),
         }
+        Ok(())
     }
 
     // A living child ends by itself, and true is answered; else nothing changes. Not counted as a call.
     pub fn exit(&mut self, child: u32, code: u8) -> bool
         ensures answer { result ≡ is_living (life_of child (view self.old).children) }
-        ensures after { view self.new ≡ happened child (Life.Ended (Exited code)) (view self.old) }
+        ensures after { view self.new ≡ happened child (Life.Ended (End.Exited code)) (view self.old) }
     {
-        let end = ProcessEnd::Exited(code);
-        self.roster.put_living(child, Life::Ended(end))
+        self.roster
+            .put_living(child, Life::Ended(End::Exited(code)))
     }
 
     // A living child stops by itself, and true is answered; else nothing changes. Not counted as a call.
@@ -82,15 +84,11 @@ impl Host for SimulatedHost {
 
     ghost book = { λ h. book_of (view h) };
 
-    ghost did = { λ h c a k. (a ≡ answer (view h) c) × (view k ≡ after (view h) c) };
+    ghost did = { λ h c a k. (a ≡ answer (view h) c) × (view k ≡ after (view h) c) × IsFit c a };
 
-    ghost keeps = { λ h c a k d.
-        let r = h.roster in
-        let sound : all_sound r.next (items r) ≡ true = (decides_sound r.next (items r)).1 (All-take (Sound r.next) r.len r.entries ((decides_sound r.next r.entries).0 r.sound)) in
-        subst (λ (s : Sim). HostKeeps 16 (book_of (view h)) c a (book_of s)) (sym d.1)
-        (subst (λ (x : HostReply c). HostKeeps 16 (book_of (view h)) c x (book_of (after (view h) c))) (sym d.0) (Book.keeps (view h) r.begun sound c)) };
+    ghost keeps = { λ h c a k d. Book.keeps (view h) h.roster.begun h.roster.numbered c a (view k) d.0 d.1 d.2 };
 
-    ghost bounded = { λ h. omega (arith, length-map (items h.roster) (λ c. c.number), length-take h.roster.len h.roster.entries, h.roster.few) };
+    ghost bounded = { λ h. Book.bounded (items h.roster) h.roster.few };
 
     fn capacity() -> usize {
         Self::MOST
@@ -107,34 +105,31 @@ impl Host for SimulatedHost {
         _way: u8,
         _time: u64,
     ) -> Result<u32, Fault> {
-        self.served = self.served.wrapping_add(1);
+        self.count();
         self.spawns = self.spawns.wrapping_add(1);
-        match self.roster.add() {
-            Some(child) => Ok(child),
-            None => Err(Fault::NO_ROOM),
-        }
+        self.roster.add().ok_or(Fault::NO_ROOM)
     }
 
     fn poll(&mut self, child: u32) -> Result<Option<ProcessEnd>, Fault> {
-        self.served = self.served.wrapping_add(1);
+        self.count();
         match self.roster.report(child) {
             None => Err(Fault::NO_CHILD),
             Some(Life::Going | Life::Stopped) => Ok(None),
-            Some(Life::Ended(end)) => Ok(Some(end)),
+            Some(Life::Ended(end)) => Ok(Some(end.into())),
         }
     }
 
     fn wait(&mut self, child: u32) -> Result<ProcessEnd, Fault> {
-        self.served = self.served.wrapping_add(1);
+        self.count();
         match self.roster.report(child) {
             None => Err(Fault::NO_CHILD),
             Some(Life::Going | Life::Stopped) => Err(Fault::INTERRUPTED),
-            Some(Life::Ended(end)) => Ok(end),
+            Some(Life::Ended(end)) => Ok(end.into()),
         }
     }
 
     fn kill(&mut self, child: u32) -> Result<(), Fault> {
-        self.send(child, 9)
+        self.send(child, KILL)
     }
 
     fn signal(&mut self, child: u32, signal: u8) -> Result<(), Fault> {
@@ -142,11 +137,11 @@ impl Host for SimulatedHost {
     }
 
     fn cont(&mut self, child: u32) -> Result<(), Fault> {
-        self.send(child, 18)
+        self.send(child, CONT)
     }
 
     fn let_go(&mut self, child: u32) {
-        self.served = self.served.wrapping_add(1);
+        self.count();
         self.roster.strike(child);
     }
 
@@ -156,7 +151,7 @@ impl Host for SimulatedHost {
         _state: CommandState,
         _previous: Option<CommandState>,
     ) -> Result<SpawnOptions, Fault> {
-        self.served = self.served.wrapping_add(1);
+        self.count();
         Ok(self.options)
     }
 
@@ -166,12 +161,12 @@ impl Host for SimulatedHost {
         _state: CommandState,
         _previous: Option<CommandState>,
     ) -> Result<(), Fault> {
-        self.served = self.served.wrapping_add(1);
+        self.count();
         Ok(())
     }
 
     fn tell(&mut self, _handler: u8, _fault: Fault) -> Result<(), Fault> {
-        self.served = self.served.wrapping_add(1);
+        self.count();
         Ok(())
     }
 }
