@@ -1,20 +1,22 @@
 // What a run of calls answers and counts.
-use drive::calls::{Call, Step, Tally};
+use drive::calls::{Call, Tally};
 use drive::runs::drive;
 use foreground::absent::AbsentTerminal;
 use host::command::SpawnOptions;
 use host::journal::Record;
 use hosts::simulated::SimulatedHost;
 use std::test::Fail;
+use supervisor::answers::StepKind;
 use supervisor::errors::Refusal;
 use supervisor::job::Job;
+use supervisor::sends::Send;
 
 fn fresh() -> Result<Job, Fail> {
     Job::new(1, 0).map_err(|_| Fail::new("no job"))
 }
 
-fn at(step: Step, time: u64) -> Call {
-    Call::Step { step, time }
+fn at(kind: StepKind, time: u64) -> Call {
+    Call::Step { kind, time }
 }
 
 #[test]
@@ -25,14 +27,14 @@ fn a_run_answers_each_call_and_counts(rt: HostRuntime) -> Result<(), Fail> {
     let mut sheet = [Record::BLANK; 8];
     let mut answers = [Err(Refusal::Line); 10];
     let calls = [
-        Call::Start,
-        Call::Start,
-        at(Step::Control, 10),
-        at(Step::Control, 11),
-        Call::ToWait,
-        at(Step::Control, 12),
-        Call::Stop,
-        at(Step::Control, 13),
+        Call::Send(Send::Start),
+        Call::Send(Send::Start),
+        at(StepKind::Control, 10),
+        at(StepKind::Control, 11),
+        Call::Send(Send::ToWait),
+        at(StepKind::Control, 12),
+        Call::Send(Send::Stop),
+        at(StepKind::Control, 13),
         Call::Look { ticket: 3 },
     ];
     let tally = drive(
@@ -77,7 +79,7 @@ fn too_few_answers_refuse_the_run(rt: HostRuntime) -> Result<(), Fail> {
         &mut job,
         &mut host,
         &mut terminal,
-        &[Call::Start, Call::Start],
+        &[Call::Send(Send::Start), Call::Send(Send::Start)],
         &mut sheet,
         &mut answers,
     );
@@ -94,7 +96,11 @@ fn a_short_sheet_refuses_each_step(rt: HostRuntime) -> Result<(), Fail> {
     let mut terminal = AbsentTerminal::new();
     let mut sheet = [Record::BLANK; 7];
     let mut answers = [Err(Refusal::Line); 3];
-    let calls = [Call::Start, at(Step::Control, 5), at(Step::Child, 5)];
+    let calls = [
+        Call::Send(Send::Start),
+        at(StepKind::Control, 5),
+        at(StepKind::Child, 5),
+    ];
     let tally = drive(
         &mut job,
         &mut host,

@@ -1,46 +1,20 @@
 -- The spawns among records, among the calls of a trace, and in a host's book.
-use Rattle.std.proofs.Common.{◌≡◌, ℕ, ◌+◌, ◌%◌, ◌^◌, ◌<◌, ◌≤◌, List, [], ◌∷◌, ◌++◌, length, get_or, take, refl, ap, ◌∙◌, arith}
-use Rattle.std.proofs.lemmas.List.{take_more}
+use Rattle.std.proofs.Common.{◌≡◌, ℕ, ◌+◌, ◌%◌, ◌^◌, if◌then◌else◌, List, [], ◌∷◌, count_by, refl, ◌∙◌, arith}
+use Rattle.std.proofs.lemmas.List.Recursion.{is_sum_by}
 use Rattle.host.specs.declared.journal.Record.{Record}
-use Rattle.host.specs.declared.journal.CallKind.{CallKind}
-use Rattle.host.specs.declared.journal.CallKind.TheVariants.{Spawn, Poll, Wait, Kill, Signal, Cont, LetGo, Hook, Routine, Tell, Owner, Acquire, Release}
-use Rattle.host.specs.declared.journal.Answer.TheVariants.{Nothing}
 use Rattle.host.specs.Calls as Calls
 use Rattle.host.specs.Calls.{Call, to_host, to_terminal, Reply, Event}
 use Rattle.host.specs.Journal.{event_record, journal}
 use Rattle.host.specs.Books as Books
 use Rattle.host.specs.Books.{HostBook, host_moved, host_along, spawns_in}
-use Rattle.drive.specs.Calls.{is_spawn, spawn_records}
+use Rattle.drive.specs.Answers.{is_spawn, spawn_records}
 
--- what stands where a sheet has no record
-abbrev pub no_record : Record
-no_record = record { call = Spawn; child = 0; number = 0; answer = Nothing }
-
-spawns-append : (xs ys : List Record) → spawn_records (xs ++ ys) ≡ spawn_records xs + spawn_records ys
-spawns-append [] ys = omega arith
-spawns-append (x ∷ xs) ys = omega (arith, spawns-append xs ys)
-
--- one record more
-pub spawns_more : (xs : List Record) (i : ℕ) (d : Record) → i < length xs → spawn_records (take (i + 1) xs) ≡ spawn_records (take i xs) + is_spawn (get_or xs i d).call
-spawns_more xs i d l = ap spawn_records (take_more xs i d l) ∙ spawns-append (take i xs) (get_or xs i d ∷ []) ∙ ap (λ (n : ℕ). spawn_records (take i xs) + n) (let e : is_spawn (get_or xs i d).call + 0 ≡ is_spawn (get_or xs i d).call = omega arith in e)
-
-pub spawn_one : (k : CallKind) → is_spawn k ≤ 1
-spawn_one Spawn = omega arith
-spawn_one Poll = omega arith
-spawn_one Wait = omega arith
-spawn_one Kill = omega arith
-spawn_one Signal = omega arith
-spawn_one Cont = omega arith
-spawn_one LetGo = omega arith
-spawn_one Hook = omega arith
-spawn_one Routine = omega arith
-spawn_one Tell = omega arith
-spawn_one Owner = omega arith
-spawn_one Acquire = omega arith
-spawn_one Release = omega arith
+-- the spawns among records, as a count gives them
+pub spawns_counted : (rs : List Record) → spawn_records rs ≡ count_by (λ r. is_spawn r.call) rs
+spawns_counted rs = is_sum_by spawn_records (λ r. if is_spawn r.call then 1 else 0) refl (λ _ _. refl) rs
 
 -- the records of a trace have the spawns of its calls
-record_spawns : (e : Event) → is_spawn (event_record e).call ≡ Books.is_spawn e.0
+record_spawns : (e : Event) → (if is_spawn (event_record e).call then 1 else 0) ≡ Books.is_spawn e.0
 record_spawns (to_host (Calls.spawn program options way time), a) = refl
 record_spawns (to_host (Calls.poll n), a) = refl
 record_spawns (to_host (Calls.wait n), a) = refl

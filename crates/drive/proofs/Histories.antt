@@ -4,12 +4,13 @@ use Rattle.std.proofs.lemmas.List.{take_more, drop_more, take_all, set-append_ri
 use Rattle.host.specs.declared.process.Host as Host
 use Rattle.host.specs.declared.terminal.Terminal as Terminal
 use Rattle.supervisor.specs.declared.errors.Refusal.{Refusal}
+use Rattle.supervisor.specs.Job.{tree_of}
 use Rattle.supervisor.specs.Steps.{Moment}
 use Rattle.drive.specs.declared.calls.Call.{Call}
-use Rattle.drive.specs.declared.calls.Call.TheVariants.{Start, Stop, ToWait, Step, Look, Collect}
+use Rattle.drive.specs.declared.calls.Call.TheVariants.{Send, Step, Look, Collect}
 use Rattle.drive.specs.declared.calls.Done.{Done}
 use Rattle.drive.specs.declared.calls.Tally.{Tally}
-use Rattle.drive.specs.Calls.{Makes, Quiet, tree_of}
+use Rattle.drive.specs.Calls.{Makes, Quiet}
 use Rattle.drive.specs.Runs.{Turn, Linked, answers_of, tried_in, ordered_in, Ran}
 use Rattle.drive.proofs.Steps.{step_few, step-spawns}
 
@@ -82,11 +83,9 @@ module _ {H T : Type 0} (by_host : Host.Ghosts H) (by_terminal : Terminal.Ghosts
 
   -- a call tries at most one start, and takes at most one order
   pub makes_few : (c : Call) (a : Moment H T) (d : Done) (b : Moment H T) → Makes by_host by_terminal c a d b → (d.tried ≤ 1) × (d.ordered ≤ 1)
-  makes_few Start a d b r = quiet_few r
-  makes_few Stop a d b r = quiet_few r
-  makes_few ToWait a d b r = quiet_few r
-  makes_few (Step step time) a d b r =
-      let few = step_few by_host by_terminal (tree_of step) time a b r.answer r.step in
+  makes_few (Send s) a d b r = quiet_few r
+  makes_few (Step kind time) a d b r =
+      let few = step_few by_host by_terminal (tree_of kind) time a b r.answer r.step in
       (omega (arith, few.0, ap (λ (x : Done). x.tried) r.does), omega (arith, few.1, ap (λ (x : Done). x.ordered) r.does))
   makes_few (Look ticket) a d b r = quiet_few r
   makes_few (Collect ticket) a d b r = quiet_few r
@@ -95,11 +94,9 @@ module _ {H T : Type 0} (by_host : Host.Ghosts H) (by_terminal : Terminal.Ghosts
   quiet_spawns q = omega (arith, ap (λ (h : H). (by_host.book h).spawns) q.host, q.tried)
 
   makes_spawns : (c : Call) (a : Moment H T) (d : Done) (b : Moment H T) → Makes by_host by_terminal c a d b → (by_host.book b.host).spawns % 2 ^ 64 ≡ ((by_host.book a.host).spawns + d.tried) % 2 ^ 64
-  makes_spawns Start a d b r = quiet_spawns r
-  makes_spawns Stop a d b r = quiet_spawns r
-  makes_spawns ToWait a d b r = quiet_spawns r
-  makes_spawns (Step step time) a d b r =
-      omega (arith, step-spawns by_host by_terminal (tree_of step) time a b r.answer r.step, ap (λ (x : Done). x.tried) r.does)
+  makes_spawns (Send s) a d b r = quiet_spawns r
+  makes_spawns (Step kind time) a d b r =
+      omega (arith, step-spawns by_host by_terminal (tree_of kind) time a b r.answer r.step, ap (λ (x : Done). x.tried) r.does)
   makes_spawns (Look ticket) a d b r = quiet_spawns r
   makes_spawns (Collect ticket) a d b r = quiet_spawns r
 

@@ -12,7 +12,7 @@ use Rattle.supervisor.specs.declared.errors.Refusal.{Refusal}
 use Rattle.supervisor.specs.Job.{JobView, Stepping}
 use Rattle.supervisor.specs.Steps.{Moment, Steps}
 use Rattle.task.proofs.Sheets.{journal-length}
-use Rattle.drive.specs.Calls.{spawn_records, truth, step_done}
+use Rattle.drive.specs.Answers.{spawn_records, truth, step_done}
 use Rattle.drive.proofs.Counts.{journal-spawns, along_spawns}
 
 truth_few : (o : Bool) → truth o ≤ 1

@@ -1,20 +1,16 @@
 // The calls that a run is made of, and what each of them did.
-use supervisor::errors::Refusal;
+ghost use Rattle.std.specs.Prelude.{◌≡◌};
+ghost use Rattle.drive.specs.Answers.{done};
 
-// Which step is made.
-#[derive(Clone, Copy, Debug, PartialEq, Eq)]
-pub enum Step {
-    Control,
-    Child,
-}
+use supervisor::answers::StepKind;
+use supervisor::errors::Refusal;
+use supervisor::sends::Send;
 
 // A call on a job. A step has its time, a look and a collect their ticket.
 #[derive(Clone, Copy, Debug, PartialEq, Eq)]
 pub enum Call {
-    Start,
-    Stop,
-    ToWait,
-    Step { step: Step, time: u64 },
+    Send(Send),
+    Step { kind: StepKind, time: u64 },
     Look { ticket: u32 },
     Collect { ticket: u32 },
 }
@@ -26,6 +22,19 @@ pub struct Done {
     pub answer: Result<u32, Refusal>,
     pub tried: usize,
     pub ordered: usize,
+}
+
+// A call that asks nothing outside does no more than answer.
+impl From<Result<u32, Refusal>> for Done {
+    ghost from_gives = { λ answer it. it ≡ done answer 0 0 };
+
+    fn from(answer: Result<u32, Refusal>) -> Done {
+        Done {
+            answer,
+            tried: 0,
+            ordered: 0,
+        }
+    }
 }
 
 // The starts tried in a run, and the controls that order a start that were taken from queues.

@@ -1,5 +1,5 @@
 -- The books of a host and a terminal that keep them move along every trace.
-use Rattle.std.proofs.Common.{◌≡◌, ℕ, List, sym, ap, ◌∙◌}
+use Rattle.std.proofs.Common.{◌≡◌, List, sym, ap, ◌∙◌}
 use Rattle.host.specs.declared.process.Host as Host
 use Rattle.host.specs.declared.terminal.Terminal as Terminal
 use Rattle.host.specs.Calls.{HostCall, HostReply, TerminalCall, TerminalReply, Call, to_host, to_terminal, Reply, Event}

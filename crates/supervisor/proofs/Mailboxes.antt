@@ -1,5 +1,5 @@
 -- The mailbox stays in order: sending, taking, raising and collecting keep its tickets in balance.
-use Rattle.std.proofs.Common.{◌≡◌, ℕ, ◌+◌, ◌<◌, ◌≤◌, Bool, true, false, cond, eqb, List, [], ◌∷◌, ◌++◌, length, refl, ap, ◌∙◌, arith}
+use Rattle.std.proofs.Common.{◌≡◌, ℕ, ◌+◌, ◌<◌, ◌≤◌, Bool, true, false, cond, eqb, Some, None, List, [], ◌∷◌, ◌++◌, length, refl, ap, ◌∙◌, arith}
 use Rattle.std.specs.Prelude.{⊤}
 use Rattle.std.proofs.lemmas.Bool.{eqb-true, ne_eqb, cond-false}
 use Rattle.tickets.specs.declared.flag.Mark.{Mark}
@@ -14,15 +14,8 @@ use Rattle.task.specs.declared.task.Outcome.{Outcome}
 use Rattle.task.specs.declared.task.Outcome.TheVariants.{Settled, Ended, Joined}
 use Rattle.task.specs.declared.task.PollOutcome.{PollOutcome}
 use Rattle.task.specs.declared.task.PollOutcome.TheVariants.{Idle, Faulted, Over}
-use Rattle.supervisor.specs.Mailbox.{QueuesView, MailboxView, with_queues, with_table, message, enqueued, admitted, Taken, nothing, from_queue, take_normal, take_high, take_urgent, take, raised, endings_raised, settle, after_poll}
-use Rattle.supervisor.specs.Sound.{weigh_messages, weigh_queues, Balanced, Once, Later}
-
--- The mailbox is in order, while the tickets `hand` are in hand.
-pub record InOrder (hand : List ℕ) (m : MailboxView) : Type 0 where
-  pub balance : Balanced hand m
-  pub once : Once m
-  pub later : Later m
-  pub places : length m.table ≡ 256
+use Rattle.supervisor.specs.Mailbox.{QueuesView, MailboxView, with_queues, with_table, message, enqueued, admitted, Taken, take_normal, take_high, take_urgent, take, raised, endings_raised, settle, after_poll}
+use Rattle.supervisor.specs.Sound.{weigh_messages, weigh_queues, InOrder}
 
 -- RAISING
 
@@ -34,7 +27,7 @@ raise_in t hand m h =
       balance = λ w. omega (arith, h.balance w, raise_waiting t m.table here w);
       once = λ s. omega (arith, h.once s, raise-taken t m.table (one_at s));
       later = λ s k. omega (arith, h.later s k, raise-taken t m.table (one_at s));
-      places = change-length _ _ m.table ∙ h.places;
+      full = change-length _ _ m.table ∙ h.full;
     }
 
 raise_each_in : (ts hand : List ℕ) (m : MailboxView) → InOrder (ts ++ hand) m → InOrder hand (with_table (raise_each ts m.table) m)
@@ -49,19 +42,19 @@ endings_in hand m h =
       balance = λ w. omega (arith, h.balance w, weigh-append w m.ending hand);
       once = h.once;
       later = h.later;
-      places = h.places;
+      full = h.full;
     })
 
 -- TAKING
 
 -- a message that is taken leaves its ticket in hand
 abbrev pub TakenIn : MailboxView → Taken → Type 0
-TakenIn m nothing = ⊤
-TakenIn m (from_queue c q) = InOrder (c.ticket ∷ []) (with_queues q m)
+TakenIn m None = ⊤
+TakenIn m (Some (c, q)) = InOrder (c.ticket ∷ []) (with_queues q m)
 
 less_in : (c : ControlMessage) (q : QueuesView) (m : MailboxView) → InOrder [] m → ((w : ℕ → ℕ) → w c.ticket + weigh_queues w q ≡ weigh_queues w m.queues) → InOrder (c.ticket ∷ []) (with_queues q m)
 less_in c q m h less =
-    record { balance = λ w. omega (arith, h.balance w, less w); once = h.once; later = h.later; places = h.places }
+    record { balance = λ w. omega (arith, h.balance w, less w); once = h.once; later = h.later; full = h.full }
 
 pub take_in : (m : MailboxView) → InOrder [] m → TakenIn m (take m.queues)
 take_in m h = urgents m.queues.urgent refl
@@ -84,7 +77,7 @@ pub settle_in : (o : Outcome) (t : ℕ) (m : MailboxView) → InOrder (t ∷ [])
 settle_in Settled t m h = raise_in t [] m h
 settle_in Ended t m h = raise_in t [] (endings_raised m) (endings_in (t ∷ []) m h)
 settle_in Joined t m h =
-    record { balance = λ w. omega (arith, h.balance w, weigh-append w m.ending (t ∷ [])); once = h.once; later = h.later; places = h.places }
+    record { balance = λ w. omega (arith, h.balance w, weigh-append w m.ending (t ∷ [])); once = h.once; later = h.later; full = h.full }
 
 pub after_poll_in : (o : PollOutcome) (m : MailboxView) → InOrder [] m → InOrder [] (after_poll o m)
 after_poll_in Idle m h = h
@@ -93,7 +86,7 @@ after_poll_in Over m h = endings_in [] m h
 
 -- a ticket in hand finds a place in the ending list
 pub ending_room : (t : ℕ) (m : MailboxView) → InOrder (t ∷ []) m → length m.ending < 256
-ending_room t m h = omega (arith, h.balance each, weigh-each m.ending, waiting_few m.table, h.places)
+ending_room t m h = omega (arith, h.balance each, weigh-each m.ending, waiting_few m.table, h.full)
 
 -- SENDING
 
@@ -116,7 +109,7 @@ admit_in p c held m h room =
       balance = λ w. omega (arith, h.balance w, more p w, put-weight is_waiting serial mark m.table room refl w, ap (λ (b : Bool). cond b (w serial) 0) (waits_new held));
       once = λ s. only s (eqb s serial) (eqb-true s serial) (taken_more s);
       later = λ s k. omega (arith, taken_more s, h.later s (omega arith), cond-false {A = ℕ} (eqb s serial) 1 0 (ne_eqb s serial (λ e. omega arith)));
-      places = change-length _ _ m.table ∙ h.places;
+      full = change-length _ _ m.table ∙ h.full;
     }
   where
     serial : ℕ
@@ -146,5 +139,5 @@ vacate_in t m h r =
       balance = λ w. omega (arith, h.balance w, vacate_waiting t m.table r w);
       once = λ s. omega (arith, h.once s, vacate-taken t m.table (one_at s));
       later = λ s k. omega (arith, h.later s k, vacate-taken t m.table (one_at s));
-      places = change-length _ _ m.table ∙ h.places;
+      full = change-length _ _ m.table ∙ h.full;
     }

@@ -1,5 +1,7 @@
--- The numbers of what a step did.
+-- What a step did, and the numbers of it.
 use Rattle.std.specs.Prelude.{ℕ}
+use Rattle.task.specs.declared.task.PollOutcome.{PollOutcome}
+use Rattle.task.specs.declared.task.PollOutcome.TheVariants as Polls
 use Rattle.supervisor.specs.declared.answers.Progress.{Progress}
 use Rattle.supervisor.specs.declared.answers.Progress.TheVariants.{Idle, Handled, Closed}
 
@@ -7,3 +9,8 @@ abbrev pub progress_number : Progress → ℕ
 progress_number Idle = 0
 progress_number Handled = 1
 progress_number Closed = 2
+
+-- a poll that found nothing to do is idle, any other is handled
+abbrev pub poll_progress : PollOutcome → Progress
+poll_progress Polls.Idle = Idle
+poll_progress outcome = Handled

@@ -1,5 +1,5 @@
 -- The job: what it holds, how it is made, its sends, looks and collects, and its steps.
-use Rattle.std.specs.Prelude.{ℕ, ◌+◌, ◌^◌, Bool, true, false, cond, ◌&&◌, [], Some, None, Ok, Err, Option, Result, ◌==◌, nat_le, ⊤}
+use Rattle.std.specs.Prelude.{ℕ, ◌+◌, ◌^◌, Bool, true, false, if◌then◌else◌, not, ◌&&◌, [], Some, None, Ok, Err, Option, Result, ◌==◌, nat_le, nat_lt, ⊤}
 use Rattle.host.specs.declared.command.SpawnOptions.{SpawnOptions}
 use Rattle.host.specs.declared.command.Command.{Command}
 use Rattle.host.specs.declared.state.CommandState.TheVariants.{Pending}
@@ -7,11 +7,12 @@ use Rattle.host.specs.Command.{options_of}
 use Rattle.host.specs.State.{is_running}
 use Rattle.host.specs.Interaction.{Interaction, done, bind}
 use Rattle.tickets.specs.declared.flag.Mark.{Mark}
-use Rattle.tickets.specs.declared.flag.Mark.TheVariants.{Free, Unheld, Held, Raised}
+use Rattle.tickets.specs.declared.flag.Mark.TheVariants.{Held, Raised}
 use Rattle.tickets.specs.Tickets.{found}
 use Rattle.supervisor.specs.declared.errors.Refusal.{Refusal}
 use Rattle.supervisor.specs.declared.errors.Refusal.TheVariants.{Closed, Sheet, Clock, Number, Unknown, Waiting}
 use Rattle.supervisor.specs.declared.answers.Progress.{Progress}
+use Rattle.supervisor.specs.declared.answers.StepKind as StepKind
 use Rattle.supervisor.specs.declared.answers.Progress.TheVariants.{Idle, Handled}
 use Rattle.task.specs.declared.messages.Control.{Control}
 use Rattle.task.specs.declared.messages.ControlMessage.{ControlMessage}
@@ -19,9 +20,10 @@ use Rattle.supervisor.specs.declared.priority.Priority.{Priority}
 use Rattle.task.specs.declared.task.Outcome.{Outcome}
 use Rattle.task.specs.declared.task.PollOutcome.{PollOutcome}
 use Rattle.task.specs.Messages.{orders}
+use Rattle.supervisor.specs.Answers.{poll_progress}
 use Rattle.task.specs.Task.{TaskView, control, poll_child}
 use Rattle.supervisor.specs.Mailbox as Mail
-use Rattle.supervisor.specs.Mailbox.{QueuesView, MailboxView, with_queues, Taken, nothing, from_queue, take, settle, after_poll}
+use Rattle.supervisor.specs.Mailbox.{QueuesView, MailboxView, with_queues, Taken, take, settle, after_poll}
 
 pub record JobView : Type 0 where
   pub closed : Bool
@@ -30,7 +32,7 @@ pub record JobView : Type 0 where
   pub clock : ℕ
 
 abbrev pub with_mailbox : MailboxView → JobView → JobView
-with_mailbox m v = record { closed = v.closed; task = v.task; mailbox = m; clock = v.clock }
+with_mailbox m v = record v { mailbox = m }
 
 -- MAKING
 
@@ -55,35 +57,34 @@ made_of program (Some options) = Ok (fresh (record { program = program; options 
 
 -- a program of 0, or options over 15, are refused
 abbrev pub make : ℕ → ℕ → Result JobView Refusal
-make program options = cond (program == 0) (Err Number) (made_of program (options_of options))
+make program options = if program == 0 then Err Number else made_of program (options_of options)
 
 -- QUESTIONS
 
 -- a dead job runs nothing
 abbrev pub runs : JobView → Bool
-runs v = cond v.closed false (is_running v.task.state)
+runs v = not v.closed && is_running v.task.state
 
 -- SENDS
 
-abbrev pub sent : Option Refusal → Priority → Control → JobView → JobView × Result ℕ Refusal
-sent (Some r) p c v = (v, Err r)
-sent None p c v = (with_mailbox (Mail.admitted p c true v.mailbox) v, Ok (v.mailbox.issued + 1))
+abbrev pub sent : Result ⊤ Refusal → Priority → Control → JobView → JobView × Result ℕ Refusal
+sent (Err r) p c v = (v, Err r)
+sent (Ok u) p c v = (with_mailbox (Mail.admitted p c true v.mailbox) v, Ok (v.mailbox.issued + 1))
 
 -- a closed job answers ticket 0; an open one refuses what lacks room, or gives the next ticket
 abbrev pub send : Priority → Control → JobView → JobView × Result ℕ Refusal
-send p c v = cond v.closed (v, Ok 0) (sent (Mail.send_refusal p v.mailbox) p c v)
+send p c v = if v.closed then (v, Ok 0) else sent (Mail.may_send p v.mailbox) p c v
 
 -- LOOK AND COLLECT
 
 -- ticket 0 is done; a held one is done once it is raised, or the job is closed
 abbrev pub looked : Bool → Mark → Result Bool Refusal
-looked closed Free = Err Unknown
-looked closed Unheld = Err Unknown
 looked closed Held = Ok closed
 looked closed Raised = Ok true
+looked closed mark = Err Unknown
 
 abbrev pub look : ℕ → JobView → Result Bool Refusal
-look ticket v = cond (ticket == 0) (Ok true) (looked v.closed (found ticket v.mailbox.table))
+look ticket v = if ticket == 0 then Ok true else looked v.closed (found ticket v.mailbox.table)
 
 abbrev pub collected : Result Bool Refusal → ℕ → JobView → JobView × Result ⊤ Refusal
 collected (Ok true) ticket v = (with_mailbox (Mail.vacated ticket v.mailbox) v, Ok tt)
@@ -92,15 +93,17 @@ collected (Err r) ticket v = (v, Err r)
 
 -- what a look calls done is collected; ticket 0 has no place to free
 abbrev pub collect : ℕ → JobView → JobView × Result ⊤ Refusal
-collect ticket v = cond (ticket == 0) (v, Ok tt) (collected (looked v.closed (found ticket v.mailbox.table)) ticket v)
+collect ticket v = if ticket == 0 then (v, Ok tt) else collected (looked v.closed (found ticket v.mailbox.table)) ticket v
 
 -- STEPS
 
--- why a step at this time with a sheet of so many places is refused, if it is
-abbrev pub step_refusal : ℕ → ℕ → JobView → Option Refusal
-step_refusal time sheet v =
-    cond v.closed (Some Closed)
-    (cond (nat_le 8 sheet) (cond (nat_le v.clock time && nat_le time (2 ^ 62)) None (Some Clock)) (Some Sheet))
+-- a step at this time, with a sheet of so many places, may be made, or is refused
+abbrev pub may_step : ℕ → ℕ → JobView → Result ⊤ Refusal
+may_step time places v =
+    if v.closed then Err Closed
+    else if nat_lt places 8 then Err Sheet
+    else if nat_le v.clock time && nat_le time (2 ^ 62) then Ok tt
+    else Err Clock
 
 -- what an accepted step ends with: the job, what was done, and whether a control that orders a start was taken from a queue
 pub record Stepping : Type 0 where
@@ -110,27 +113,22 @@ pub record Stepping : Type 0 where
 
 abbrev pub carried : ℕ → JobView → ControlMessage → QueuesView → TaskView × Outcome → Stepping
 carried time v c q x = record {
-  view = record { closed = v.closed; task = x.0; mailbox = settle x.1 c.ticket (with_queues q v.mailbox); clock = time };
+  view = record v { task = x.0; mailbox = settle x.1 c.ticket (with_queues q v.mailbox); clock = time };
   progress = Handled;
   ordered = orders c.control;
 }
 
 abbrev pub carry_out : Taken → ℕ → JobView → Interaction Stepping
-carry_out nothing time v = done (record { view = record { closed = v.closed; task = v.task; mailbox = v.mailbox; clock = time }; progress = Idle; ordered = false })
-carry_out (from_queue c q) time v = bind (control c.control time v.task) (λ x. done (carried time v c q x))
+carry_out None time v = done (record { view = record v { clock = time }; progress = Idle; ordered = false })
+carry_out (Some (c, q)) time v = bind (control c.control time v.task) (λ x. done (carried time v c q x))
 
 -- a control step carries out the control that it takes
 abbrev pub control_step : ℕ → JobView → Interaction Stepping
 control_step time v = carry_out (take v.mailbox.queues) time v
 
-abbrev pub poll_progress : PollOutcome → Progress
-poll_progress PollOutcome.Idle = Idle
-poll_progress PollOutcome.Faulted = Handled
-poll_progress PollOutcome.Over = Handled
-
 abbrev pub watched : ℕ → JobView → TaskView × PollOutcome → Stepping
 watched time v x = record {
-  view = record { closed = v.closed; task = x.0; mailbox = after_poll x.1 v.mailbox; clock = time };
+  view = record v { task = x.0; mailbox = after_poll x.1 v.mailbox; clock = time };
   progress = poll_progress x.1;
   ordered = false;
 }
@@ -138,3 +136,7 @@ watched time v x = record {
 -- a child step polls the child
 abbrev pub child_step : ℕ → JobView → Interaction Stepping
 child_step time v = bind (poll_child time v.task) (λ x. done (watched time v x))
+
+abbrev pub tree_of : StepKind.StepKind → ℕ → JobView → Interaction Stepping
+tree_of StepKind.TheVariants.Control = control_step
+tree_of StepKind.TheVariants.Child = child_step

@@ -2,6 +2,7 @@ pub mod Answers
 pub mod Errors
 pub mod Job
 pub mod Mailbox
+pub mod Sends
 pub mod Sound
 pub mod Steps
 pub mod View

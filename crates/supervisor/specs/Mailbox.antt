@@ -1,5 +1,5 @@
 -- The mailbox of a job: how messages are sent and taken, and what becomes of tickets.
-use Rattle.std.specs.Prelude.{ℕ, ◌+◌, Bool, cond, List, [], ◌∷◌, ◌++◌, length, replicate, Some, None, Option, nat_lt}
+use Rattle.std.specs.Prelude.{ℕ, ◌+◌, Bool, if◌then◌else◌, not, List, [], ◌∷◌, ◌++◌, length, replicate, Some, None, Ok, Err, Option, Result, nat_lt, ⊤}
 use Rattle.tickets.specs.Tickets.{Table, free_entry, raise, raise_each, put, new_mark, ticket_room, vacate}
 use Rattle.supervisor.specs.declared.errors.Refusal.{Refusal}
 use Rattle.supervisor.specs.declared.errors.Refusal.TheVariants.{Queue, Tickets}
@@ -10,7 +10,7 @@ use Rattle.supervisor.specs.declared.priority.Priority.TheVariants.{Normal, High
 use Rattle.task.specs.declared.task.Outcome.{Outcome}
 use Rattle.task.specs.declared.task.Outcome.TheVariants.{Settled, Ended, Joined}
 use Rattle.task.specs.declared.task.PollOutcome.{PollOutcome}
-use Rattle.task.specs.declared.task.PollOutcome.TheVariants.{Idle, Faulted, Over}
+use Rattle.task.specs.declared.task.PollOutcome.TheVariants.{Over}
 
 -- the messages that wait, oldest first
 pub record QueuesView : Type 0 where
@@ -27,10 +27,10 @@ pub record MailboxView : Type 0 where
   pub table : Table
 
 abbrev pub with_queues : QueuesView → MailboxView → MailboxView
-with_queues q m = record { queues = q; ending = m.ending; issued = m.issued; table = m.table }
+with_queues q m = record m { queues = q }
 
 abbrev pub with_table : Table → MailboxView → MailboxView
-with_table t m = record { queues = m.queues; ending = m.ending; issued = m.issued; table = t }
+with_table t m = record m { table = t }
 
 -- SENDING
 
@@ -45,9 +45,9 @@ capacity High = 64
 capacity Urgent = 16
 
 abbrev pub enqueued : Priority → ControlMessage → QueuesView → QueuesView
-enqueued Normal c q = record { normal = q.normal ++ c ∷ []; high = q.high; urgent = q.urgent }
-enqueued High c q = record { normal = q.normal; high = q.high ++ c ∷ []; urgent = q.urgent }
-enqueued Urgent c q = record { normal = q.normal; high = q.high; urgent = q.urgent ++ c ∷ [] }
+enqueued Normal c q = record q { normal = q.normal ++ c ∷ [] }
+enqueued High c q = record q { high = q.high ++ c ∷ [] }
+enqueued Urgent c q = record q { urgent = q.urgent ++ c ∷ [] }
 
 -- a queue has room for one message more
 abbrev pub queue_room : Priority → QueuesView → Bool
@@ -62,35 +62,33 @@ message control ticket = record { control = control; ticket = ticket }
 
 -- the control gets the next ticket, held or not, and waits in its queue
 abbrev pub admitted : Priority → Control → Bool → MailboxView → MailboxView
-admitted p c held m = record {
+admitted p c held m = record m {
   queues = enqueued p (message c (m.issued + 1)) m.queues;
-  ending = m.ending;
   issued = m.issued + 1;
   table = put (m.issued + 1) (new_mark held) m.table;
 }
 
--- what lacks for a send, if anything does
-abbrev pub send_refusal : Priority → MailboxView → Option Refusal
-send_refusal p m = cond (queue_room p m.queues) (cond (serial_room m) None (Some Tickets)) (Some Queue)
+-- a send may be made, or lacks something
+abbrev pub may_send : Priority → MailboxView → Result ⊤ Refusal
+may_send p m = if not (queue_room p m.queues) then Err Queue else if serial_room m then Ok tt else Err Tickets
 
 -- TAKING
 
 -- what a control step takes: nothing, or a message, with the queues that it leaves
-pub data Taken : Type 0 where
-  nothing : Taken
-  from_queue : ControlMessage → QueuesView → Taken
+abbrev pub Taken : Type 0
+Taken = Option (ControlMessage × QueuesView)
 
 abbrev pub take_normal : List ControlMessage → QueuesView → Taken
-take_normal [] q = nothing
-take_normal (c ∷ cs) q = from_queue c (record { normal = cs; high = q.high; urgent = q.urgent })
+take_normal [] q = None
+take_normal (c ∷ cs) q = Some (c, record q { normal = cs })
 
 abbrev pub take_high : List ControlMessage → QueuesView → Taken
 take_high [] q = take_normal q.normal q
-take_high (c ∷ cs) q = from_queue c (record { normal = q.normal; high = cs; urgent = q.urgent })
+take_high (c ∷ cs) q = Some (c, record q { high = cs })
 
 abbrev pub take_urgent : List ControlMessage → QueuesView → Taken
 take_urgent [] q = take_high q.high q
-take_urgent (c ∷ cs) q = from_queue c (record { normal = q.normal; high = q.high; urgent = cs })
+take_urgent (c ∷ cs) q = Some (c, record q { urgent = cs })
 
 -- the oldest urgent message, else the oldest high one, else the oldest normal one
 abbrev pub take : QueuesView → Taken
@@ -103,28 +101,22 @@ raised ticket m = with_table (raise ticket m.table) m
 
 -- each ticket of the ending list is raised, and the list is empty
 abbrev pub endings_raised : MailboxView → MailboxView
-endings_raised m = record { queues = m.queues; ending = []; issued = m.issued; table = raise_each m.ending m.table }
+endings_raised m = record m { ending = []; table = raise_each m.ending m.table }
 
 -- what an outcome makes of the ticket of a control
 abbrev pub settle : Outcome → ℕ → MailboxView → MailboxView
 settle Settled ticket m = raised ticket m
 settle Ended ticket m = raised ticket (endings_raised m)
-settle Joined ticket m = record { queues = m.queues; ending = m.ending ++ ticket ∷ []; issued = m.issued; table = m.table }
+settle Joined ticket m = record m { ending = m.ending ++ ticket ∷ [] }
 
 -- what a poll makes of the tickets that wait for the child's end
 abbrev pub after_poll : PollOutcome → MailboxView → MailboxView
-after_poll Idle m = m
-after_poll Faulted m = m
 after_poll Over m = endings_raised m
+after_poll outcome m = m
 
 -- the place of a ticket is freed
 abbrev pub vacated : ℕ → MailboxView → MailboxView
 vacated ticket m = with_table (vacate ticket m.table) m
-
--- what is taken, and the queues that are left, as a message and queues tell it
-abbrev pub as_taken : Option ControlMessage → QueuesView → Taken
-as_taken None q = nothing
-as_taken (Some c) q = from_queue c q
 
 -- an empty mailbox
 abbrev pub empty : MailboxView

@@ -33,3 +33,10 @@ Later m = (s : ℕ) → m.issued < s → weight is_taken (one_at s) m.table ≡ 
 -- the table has its 256 places
 abbrev pub Full : MailboxView → Type 0
 Full m = length m.table ≡ 256
+
+-- the mailbox is in order while the tickets `hand` are in hand
+pub record InOrder (hand : List ℕ) (m : MailboxView) : Type 0 where
+  pub balance : Balanced hand m
+  pub once : Once m
+  pub later : Later m
+  pub full : Full m

@@ -1,5 +1,5 @@
 -- What a call leaves of a job, and what a step leaves of a job, its host, its terminal and the sheet.
-use Rattle.std.specs.Prelude.{◌≡◌, ℕ, ◌≤◌, List, length, Some, None, Ok, Err, Result}
+use Rattle.std.specs.Prelude.{◌≡◌, ℕ, ◌≤◌, List, length, Ok, Err, Result}
 use Rattle.host.specs.declared.journal.Record.{Record}
 use Rattle.host.specs.declared.process.Host as Host
 use Rattle.host.specs.declared.terminal.Terminal as Terminal
@@ -9,7 +9,8 @@ use Rattle.supervisor.specs.declared.errors.Refusal.{Refusal}
 use Rattle.supervisor.specs.declared.answers.Stepped.{Stepped}
 use Rattle.supervisor.specs.declared.job.Job.{Job}
 use Rattle.task.specs.Conducts.{Conducts}
-use Rattle.supervisor.specs.Job.{JobView, Stepping, step_refusal}
+use Rattle.supervisor.specs.Errors.{Refused}
+use Rattle.supervisor.specs.Job.{JobView, Stepping, may_step}
 use Rattle.task.specs.View.{task_view}
 use Rattle.supervisor.specs.View.{mailbox_view}
 
@@ -21,12 +22,20 @@ abbrev pub view_made : Result Job Refusal → Result JobView Refusal
 view_made (Ok j) = Ok (job_view j)
 view_made (Err r) = Err r
 
+-- The call f of the job j was answered r, and left the job j'; where it was refused nothing changed.
+pub record Answers {A : Type 0} (f : JobView → JobView × Result A Refusal) (j : Job) (r : Result A Refusal) (j' : Job) : Type 0 where
+  pub answer : (job_view j', r) ≡ f (job_view j)
+  pub unchanged : Refused r (j' ≡ j)
+
 -- A job, its host, its terminal and the sheet, at one moment.
 pub record Moment (H T : Type 0) : Type 0 where
   pub job : Job
   pub host : H
   pub terminal : T
   pub sheet : List Record
+
+abbrev pub moment : {H T : Type 0} → Job → H → T → List Record → Moment H T
+moment job host terminal sheet = record { job = job; host = host; terminal = terminal; sheet = sheet }
 
 abbrev pub world_at : {H T : Type 0} → Moment H T → World H T
 world_at a = record { host = a.host; terminal = a.terminal }
@@ -45,5 +54,5 @@ pub record Accepted {H T : Type 0} (by_host : Host.Ghosts H) (by_terminal : Term
 
 -- a step is refused and changes nothing, or is accepted
 abbrev pub Steps : {H T : Type 0} (by_host : Host.Ghosts H) (by_terminal : Terminal.Ghosts T) → (ℕ → JobView → Interaction Stepping) → ℕ → Moment H T → Result Stepped Refusal → Moment H T → Type 0
-Steps by_host by_terminal tree time a (Err r) b = (step_refusal time (length a.sheet) (job_view a.job) ≡ Some r) × (b ≡ a)
-Steps by_host by_terminal tree time a (Ok s) b = (step_refusal time (length a.sheet) (job_view a.job) ≡ None) × Accepted by_host by_terminal (tree time (job_view a.job)) a s b
+Steps by_host by_terminal tree time a (Err r) b = (may_step time (length a.sheet) (job_view a.job) ≡ Err r) × (b ≡ a)
+Steps by_host by_terminal tree time a (Ok s) b = (may_step time (length a.sheet) (job_view a.job) ≡ Ok tt) × Accepted by_host by_terminal (tree time (job_view a.job)) a s b

@@ -1,6 +1,15 @@
-// What a step answers.
+// The two kinds of step, and what a step answers.
 ghost use Rattle.std.specs.Prelude.{◌≡◌};
-ghost use Rattle.supervisor.specs.Answers.{progress_number};
+ghost use Rattle.supervisor.specs.Answers.{poll_progress, progress_number};
+
+use task::task::PollOutcome;
+
+// A control step carries out one control, a child step polls the child.
+#[derive(Clone, Copy, Debug, PartialEq, Eq)]
+pub enum StepKind {
+    Control,
+    Child,
+}
 
 // What a step did: nothing, something, or it closed the job.
 #[derive(Clone, Copy, Debug, PartialEq, Eq)]
@@ -16,6 +25,18 @@ impl From<Progress> for u8 {
 
     fn from(progress: Progress) -> u8 {
         progress as u8
+    }
+}
+
+// What a poll of the child comes to.
+impl From<PollOutcome> for Progress {
+    ghost from_gives = { λ outcome progress. progress ≡ poll_progress outcome };
+
+    fn from(outcome: PollOutcome) -> Progress {
+        match outcome {
+            PollOutcome::Idle => Progress::Idle,
+            PollOutcome::Faulted | PollOutcome::Over => Progress::Handled,
+        }
     }
 }
 

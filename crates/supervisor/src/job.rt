@@ -1,7 +1,7 @@
 // A job, with what holds of each.
 ghost use Rattle.std.specs.Prelude.{◌≡◌, ◌^◌, ◌≤◌, true, false, []};
 ghost use Rattle.task.specs.Task.{Granted};
-ghost use Rattle.supervisor.specs.Sound.{Balanced, Once, Later, Full};
+ghost use Rattle.supervisor.specs.Sound.{InOrder};
 ghost use Rattle.task.specs.View.{task_view};
 ghost use Rattle.supervisor.specs.View.{mailbox_view};
 
@@ -16,10 +16,7 @@ pub struct Job {
     mailbox: Mailbox,
     // The time of the last accepted step.
     clock: u64,
-    ghost balanced: { closed ≡ false → Balanced [] (mailbox_view mailbox) },
-    ghost once: { closed ≡ false → Once (mailbox_view mailbox) },
-    ghost later: { closed ≡ false → Later (mailbox_view mailbox) },
-    ghost full: { closed ≡ false → Full (mailbox_view mailbox) },
+    ghost in_order: { closed ≡ false → InOrder [] (mailbox_view mailbox) },
     ghost granted: { Granted (task_view task) },
     ghost timely: { clock ≤ 2 ^ 62 },
 }

@@ -6,5 +6,6 @@ pub mod errors;
 pub mod job;
 mod mailbox;
 pub mod priority;
+pub mod sends;
 #[cfg(test)]
 mod tests;

@@ -1,5 +1,6 @@
 // What a mailbox does: messages are sent and taken, tickets are given and raised.
-ghost use Rattle.std.specs.Prelude.{◌≡◌, ◌+◌, ◌<◌, true, length, None};
+ghost use Rattle.std.specs.Prelude.{◌≡◌, ◌+◌, ◌<◌, true, length, None, Ok};
+ghost use Rattle.std.specs.Option.{option_map};
 ghost use Rattle.supervisor.specs.Mailbox as Mail;
 ghost use Rattle.supervisor.specs.View.{queues_view, mailbox_view};
 
@@ -36,9 +37,10 @@ impl Queues {
 
     // Takes the oldest urgent message, else the oldest high one, else the oldest normal one.
     pub(crate) fn receive(&mut self) -> Option<ControlMessage>
-        ensures taken { Mail.take (queues_view self.old) ≡ Mail.as_taken result (queues_view self.new) }
+        ensures taken { Mail.take (queues_view self.old) ≡ option_map (λ message. (message, queues_view self.new)) result }
         ensures idle { result ≡ None → queues_view self.new ≡ queues_view self.old }
     {
+        // Not `pop().or_else(|| ..)`: what a closure has popped, a proof doesn't know.
         if let Some(message) = self.urgent.pop() {
             return Some(message);
         }
@@ -71,22 +73,22 @@ impl Mailbox {
         }
     }
 
-    // What lacks for a send, if anything does.
-    pub(crate) fn refusal(&self, priority: Priority) -> Option<Refusal>
-        ensures { result ≡ Mail.send_refusal priority (mailbox_view self.now) }
+    // Whether a send may be made, or what it lacks.
+    pub(crate) fn may_send(&self, priority: Priority) -> Result<(), Refusal>
+        ensures { result ≡ Mail.may_send priority (mailbox_view self.now) }
     {
         if !self.queues.has_room(priority) {
-            return Some(Refusal::Queue);
+            return Err(Refusal::Queue);
         }
         if !self.tickets.fits(1) {
-            return Some(Refusal::Tickets);
+            return Err(Refusal::Tickets);
         }
-        None
+        Ok(())
     }
 
     // Gives a control the next ticket, held or not, and adds it to its queue.
     pub(crate) fn admit(&mut self, priority: Priority, control: Control, held: bool) -> u32
-        requires { Mail.send_refusal priority (mailbox_view self.old) ≡ None }
+        requires { Mail.may_send priority (mailbox_view self.old) ≡ Ok tt }
         ensures ticket { result ≡ (mailbox_view self.old).issued + 1 }
         ensures after { mailbox_view self.new ≡ Mail.admitted priority control held (mailbox_view self.old) }
     {

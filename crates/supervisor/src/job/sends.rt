@@ -3,17 +3,17 @@ ghost use Rattle.std.specs.Prelude.{◌≡◌, not};
 ghost use Rattle.task.specs.declared.messages.Control.TheVariants.{Start, Stop, NextEnding};
 ghost use Rattle.supervisor.specs.declared.priority.Priority.TheVariants.{Normal, High};
 ghost use Rattle.tickets.specs.Tickets.{found};
-ghost use Rattle.supervisor.specs.Errors.{Refused};
 ghost use Rattle.supervisor.specs.Job as Spec;
-ghost use Rattle.supervisor.specs.Steps.{job_view, view_made};
+ghost use Rattle.supervisor.specs.Sends.{control_of, priority_of};
+ghost use Rattle.supervisor.specs.Steps.{Answers, job_view, view_made};
 
 use super::Job;
 use crate::errors::Refusal;
-use crate::priority::{Mailbox, Priority};
+use crate::priority::Mailbox;
+use crate::sends::Send;
 use host::command::{Command, SpawnOptions};
 use host::state::CommandState;
 use ring::queue::Queue;
-use task::messages::Control;
 use task::task::{Foreground, Settings, Task};
 use tickets::flag::Mark;
 
@@ -78,42 +78,37 @@ impl Job {
         self.task.state
     }
 
-    // Sends a control; a closed job answers ticket 0.
-    fn send(&mut self, priority: Priority, control: Control) -> Result<u32, Refusal>
-        ensures sent { (job_view self.new, result) ≡ Spec.send priority control (job_view self.old) }
-        ensures refused { Refused result (self.new ≡ self.old) }
+    // Any of the sends. The answer is a ticket, which is raised when that is done; a closed job answers ticket 0.
+    pub fn send(&mut self, send: Send) -> Result<u32, Refusal>
+        ensures { Answers (Spec.send (priority_of send) (control_of send)) self.old result self.new }
     {
         if self.closed {
             return Ok(0);
         }
-        if let Some(refusal) = self.mailbox.refusal(priority) {
-            return Err(refusal);
-        }
-        Ok(self.mailbox.admit(priority, control, true))
+        let priority = send.priority();
+        self.mailbox.may_send(priority)?;
+        Ok(self.mailbox.admit(priority, send.control(), true))
     }
 
-    // Starts the command if it is not running. The answer is a ticket, which is raised when that is done.
+    // Starts the command if it is not running.
     pub fn start(&mut self) -> Result<u32, Refusal>
-        ensures sent { (job_view self.new, result) ≡ Spec.send Normal Start (job_view self.old) }
-        ensures refused { Refused result (self.new ≡ self.old) }
+        ensures { Answers (Spec.send Normal Start) self.old result self.new }
     {
-        self.send(Priority::Normal, Control::Start)
+        self.send(Send::Start)
     }
 
     // Stops the command if it is running, and waits for its end.
     pub fn stop(&mut self) -> Result<u32, Refusal>
-        ensures sent { (job_view self.new, result) ≡ Spec.send Normal Stop (job_view self.old) }
-        ensures refused { Refused result (self.new ≡ self.old) }
+        ensures { Answers (Spec.send Normal Stop) self.old result self.new }
     {
-        self.send(Priority::Normal, Control::Stop)
+        self.send(Send::Stop)
     }
 
     // A ticket that is raised when the command ends; at once if it does not run.
     pub fn to_wait(&mut self) -> Result<u32, Refusal>
-        ensures sent { (job_view self.new, result) ≡ Spec.send High NextEnding (job_view self.old) }
-        ensures refused { Refused result (self.new ≡ self.old) }
+        ensures { Answers (Spec.send High NextEnding) self.old result self.new }
     {
-        self.send(Priority::High, Control::NextEnding)
+        self.send(Send::ToWait)
     }
 
     // Whether a held ticket is raised, or the job is closed.
@@ -139,8 +134,7 @@ impl Job {
 
     // Gives a ticket back that is done; its place is free again.
     pub fn collect(&mut self, ticket: u32) -> Result<(), Refusal>
-        ensures collected { (job_view self.new, result) ≡ Spec.collect ticket (job_view self.old) }
-        ensures refused { Refused result (self.new ≡ self.old) }
+        ensures { Answers (Spec.collect ticket) self.old result self.new }
     {
         if ticket == 0 {
             return Ok(());

@@ -1,10 +1,10 @@
 // The steps of a job: a control step carries out one control, a child step polls the child.
 ghost use Rattle.std.specs.Prelude.{◌≡◌, length};
 ghost use Rattle.supervisor.specs.Job as Spec;
-ghost use Rattle.supervisor.specs.Steps.{job_view, Steps};
+ghost use Rattle.supervisor.specs.Steps.{job_view, moment, Steps};
 
 use super::Job;
-use crate::answers::{Progress, Stepped};
+use crate::answers::{Progress, StepKind, Stepped};
 use crate::errors::Refusal;
 use host::fault::Fault;
 use host::journal::Record;
@@ -12,35 +12,25 @@ use host::process::Host;
 use host::terminal::Terminal;
 use task::conduct;
 use task::conduct::LEAST_PLACES;
-use task::task::PollOutcome;
 
 // The latest time, in milliseconds.
 const LATEST: u64 = 1 << 62;
 
-fn poll_progress(outcome: PollOutcome) -> Progress
-    ensures { result ≡ Spec.poll_progress outcome }
-{
-    match outcome {
-        PollOutcome::Idle => Progress::Idle,
-        PollOutcome::Faulted | PollOutcome::Over => Progress::Handled,
-    }
-}
-
 impl Job {
-    // Why a step at this time, with a sheet of so many places, is refused, if it is.
-    fn step_refusal(&self, time: u64, places: usize) -> Option<Refusal>
-        ensures { result ≡ Spec.step_refusal time places (job_view self.now) }
+    // Whether a step at this time, with a sheet of so many places, may be made.
+    fn may_step(&self, time: u64, places: usize) -> Result<(), Refusal>
+        ensures { result ≡ Spec.may_step time places (job_view self.now) }
     {
         if self.closed {
-            return Some(Refusal::Closed);
+            return Err(Refusal::Closed);
         }
         if places < LEAST_PLACES {
-            return Some(Refusal::Sheet);
+            return Err(Refusal::Sheet);
         }
         if time < self.clock || time > LATEST {
-            return Some(Refusal::Clock);
+            return Err(Refusal::Clock);
         }
-        None
+        Ok(())
     }
 
     // Takes the next control and carries it out. The calls that are made are recorded on the sheet, from its first place on.
@@ -51,11 +41,9 @@ impl Job {
         sheet: &mut [Record],
         time: u64,
     ) -> Result<Stepped, Refusal>
-        ensures { Steps H.Host T.Terminal Spec.control_step time (record { job = self.old; host = host.old; terminal = terminal.old; sheet = sheet.old }) result (record { job = self.new; host = host.new; terminal = terminal.new; sheet = sheet.new }) }
+        ensures { Steps H.Host T.Terminal Spec.control_step time (moment self.old host.old terminal.old sheet.old) result (moment self.new host.new terminal.new sheet.new) }
     {
-        if let Some(refusal) = self.step_refusal(time, sheet.len()) {
-            return Err(refusal);
-        }
+        self.may_step(time, sheet.len())?; // A refused step keeps the clock.
         self.clock = time;
         let Some(message) = self.mailbox.queues.receive() else {
             return Ok(Stepped {
@@ -90,11 +78,9 @@ impl Job {
         sheet: &mut [Record],
         time: u64,
     ) -> Result<Stepped, Refusal>
-        ensures { Steps H.Host T.Terminal Spec.child_step time (record { job = self.old; host = host.old; terminal = terminal.old; sheet = sheet.old }) result (record { job = self.new; host = host.new; terminal = terminal.new; sheet = sheet.new }) }
+        ensures { Steps H.Host T.Terminal Spec.child_step time (moment self.old host.old terminal.old sheet.old) result (moment self.new host.new terminal.new sheet.new) }
     {
-        if let Some(why) = self.step_refusal(time, sheet.len()) {
-            return Err(why);
-        }
+        self.may_step(time, sheet.len())?;
         self.clock = time;
         let Some((outcome, records)) = conduct::poll(&mut self.task, host, terminal, sheet, time)
         else {
@@ -102,9 +88,26 @@ impl Job {
         };
         self.mailbox.after_poll(outcome);
         Ok(Stepped {
-            progress: poll_progress(outcome),
+            progress: outcome.into(),
             records,
             ordered: false,
         })
+    }
+
+    // A step of either kind.
+    pub fn step<H: Host, T: Terminal>(
+        &mut self,
+        kind: StepKind,
+        host: &mut H,
+        terminal: &mut T,
+        sheet: &mut [Record],
+        time: u64,
+    ) -> Result<Stepped, Refusal>
+        ensures { Steps H.Host T.Terminal (Spec.tree_of kind) time (moment self.old host.old terminal.old sheet.old) result (moment self.new host.new terminal.new sheet.new) }
+    {
+        match kind {
+            StepKind::Control => self.control_step(host, terminal, sheet, time),
+            StepKind::Child => self.child_step(host, terminal, sheet, time),
+        }
     }
 }

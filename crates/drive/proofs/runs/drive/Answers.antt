@@ -1,5 +1,6 @@
 use Rattle.std.proofs.Common.{◌<◌, ◌≤◌, length, get_or, arith}
-use Rattle.drive.specs.declared.calls.Call.TheVariants.{Start}
+use Rattle.drive.specs.declared.calls.Call.TheVariants.{Send}
+use Rattle.supervisor.specs.declared.sends.Send.TheVariants.{Start}
 use Rattle.drive.proofs.Histories.{at_first, one_more, makes_few, all_made}
 use Rattle.drive.proofs.runs.drive.Given as given
 use Rattle.drive.proofs.runs.drive.Goals as goal
@@ -9,7 +10,7 @@ use Rattle.drive.proofs.runs.drive.Goals.{After-make-done}
 few : (g : given.Over) (c : After-make-done g) → (c.make-done.result.tried ≤ 1) × (c.make-done.result.ordered ≤ 1)
 few g c =
     let after = c.make-done.new in
-    makes_few g.H.Host g.T.Terminal (get_or c.args.calls.now c.loop-i.i Start) _ c.make-done.result
+    makes_few g.H.Host g.T.Terminal (get_or c.args.calls.now c.loop-i.i (Send Start)) _ c.make-done.result
     (record { job = after.job; host = after.host; terminal = after.terminal; sheet = after.sheet }) c.make-done.ensures
 
 pub overflow_add-tried : goal.overflow_add-tried
@@ -28,7 +29,7 @@ loop-i-preserved g c =
     let k : c.loop-i.i < length c.args.answers.now = omega arith in (
       omega (arith, h.0, c.loop-i.invariant.0),
       omega (arith, h.1, c.loop-i.invariant.1),
-      one_more g.H.Host g.T.Terminal c.args.calls.now c.loop-i.i Start _ c.args.answers.now c.loop-i.tried c.loop-i.ordered _ c.loop-i.answers c.make-done.result _ l k c.loop-i.invariant.2 c.make-done.ensures,
+      one_more g.H.Host g.T.Terminal c.args.calls.now c.loop-i.i (Send Start) _ c.args.answers.now c.loop-i.tried c.loop-i.ordered _ c.loop-i.answers c.make-done.result _ l k c.loop-i.invariant.2 c.make-done.ensures,
     )
 
 pub returns : goal.returns
