@@ -1,4 +1,1 @@
-pub mod Cuts
-pub mod Digits
-pub mod Printing
 pub mod Reading

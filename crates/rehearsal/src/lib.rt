@@ -14,7 +14,7 @@ ghost use Rattle.rehearsal.specs.Printed.{Printed};
 ghost use Rattle.rehearsal.specs.Script.{script_of};
 
 use crate::run::Rehearsal;
-use crate::script::Fault;
+use crate::script::ReadError;
 use std::alloc::{AllocError, Global};
 
 // The text that a script prints: what each of its lines answers with the records of its calls, or the number of a faulty line.
@@ -22,12 +22,9 @@ pub fn rehearse(heap: Global, script: &[u8]) -> Result<String, AllocError>
     ensures { IfOk result (λ text. Printed (script_of script.now) (string_bytes text)) }
 {
     match script::read(heap, script) {
-        Ok(lines) => {
-            let mut rehearsal = Rehearsal::new();
-            rehearsal.perform(heap, &lines)
-        }
-        Err(Fault::Line(number)) => print::faulty(heap, number),
-        Err(Fault::Memory) => Err(AllocError),
+        Ok(lines) => Rehearsal::new().perform(heap, &lines),
+        Err(ReadError::Faulty(fault)) => format!(in heap; "{fault}"),
+        Err(ReadError::Memory) => Err(AllocError),
     }
 }
 

@@ -1,9 +1,9 @@
 // A script's calls, made on one job. What is printed is compared with stored outputs.
-ghost use Rattle.std.specs.Prelude.{◌≡◌, [], length, is_ok, IfOk, if◌then◌else◌, Ok, Err, string_bytes, nat_le};
+ghost use Rattle.std.specs.Prelude.{◌≡◌, ◌^◌, [], length, is_ok, IfOk, if◌then◌else◌, Ok, Err, string_bytes, nat_le, nat_lt};
 ghost use Rattle.supervisor.specs.declared.errors.Refusal.TheVariants.{Unknown};
 
 use crate::line::{Line, Send, StepKind};
-use crate::print;
+use crate::print::write_line;
 use foreground::absent::AbsentTerminal;
 use host::journal::{Answer, CallKind, Record};
 use hosts::simulated::SimulatedHost;
@@ -24,10 +24,19 @@ const NO_RECORD: Record = Record {
 };
 
 // What a granted line answers, and how many records its step wrote.
-#[derive(Clone, Copy)]
+#[derive(Clone, Copy, Default)]
 pub struct Granted {
     pub value: u32,
     pub records: usize,
+}
+
+// A value alone, without records.
+impl From<u32> for Granted {
+    ghost from_gives = { λ value granted. granted ≡ record { value = value; records = 0 } };
+
+    fn from(value: u32) -> Granted {
+        Granted { value, records: 0 }
+    }
 }
 
 #[derive(Drop)]
@@ -38,30 +47,27 @@ pub struct Rehearsal {
     sheet: [Record; PLACES],
 }
 
-fn value_alone(value: u32) -> Granted
-    ensures { result ≡ record { value = value; records = 0 } }
+// No ticket and no child has a number of more than 32 bits.
+fn known(number: u64) -> Result<u32, Refusal>
+    ensures { result ≡ (if nat_lt number (2 ^ 32) then Ok number else Err Unknown) }
 {
-    Granted { value, records: 0 }
+    u32::try_from(number).map_err(|_| Refusal::Unknown)
 }
 
 // Where nothing living has that number, the child is unknown.
 fn if_living(living: bool) -> Result<Granted, Refusal>
     ensures { result ≡ (if living then Ok (record { value = 0; records = 0 }) else Err Unknown) }
 {
-    if living {
-        Ok(value_alone(0))
-    } else {
-        Err(Refusal::Unknown)
-    }
+    living.then_some(Granted::default()).ok_or(Refusal::Unknown)
 }
 
 impl Rehearsal {
     // With options and mask 0.
     pub(crate) fn new() -> Rehearsal {
-        match Rehearsal::with(0, 0) {
-            Ok(made) => made,
-            Err(_) => unreachable(),
-        }
+        let Ok(made) = Rehearsal::with(0, 0) else {
+            unreachable!()
+        };
+        made
     }
 
     // Bits of the mask above 31 name no signal.
@@ -79,11 +85,9 @@ impl Rehearsal {
     }
 
     fn make(&mut self, options: u64, mask: u64) -> Result<Granted, Refusal> {
-        let Ok(options) = u8::try_from(options) else {
-            return Err(Refusal::Number);
-        };
+        let options = u8::try_from(options).map_err(|_| Refusal::Number)?;
         *self = Rehearsal::with(options, mask)?;
-        Ok(value_alone(0))
+        Ok(Granted::default())
     }
 
     fn send(&mut self, send: Send) -> Result<Granted, Refusal> {
@@ -92,7 +96,7 @@ impl Rehearsal {
             Send::Stop => self.job.stop()?,
             Send::ToWait => self.job.to_wait()?,
         };
-        Ok(value_alone(ticket))
+        Ok(ticket.into())
     }
 
     fn step(&mut self, kind: StepKind, time: u64) -> Result<Granted, Refusal> {
@@ -111,33 +115,21 @@ impl Rehearsal {
     }
 
     fn look(&self, ticket: u64) -> Result<Granted, Refusal> {
-        let Ok(ticket) = u32::try_from(ticket) else {
-            return Err(Refusal::Unknown);
-        };
-        let done = self.job.look(ticket)?;
-        Ok(value_alone(u32::from(done)))
+        let done = self.job.look(known(ticket)?)?;
+        Ok(u32::from(done).into())
     }
 
     fn collect(&mut self, ticket: u64) -> Result<Granted, Refusal> {
-        let Ok(ticket) = u32::try_from(ticket) else {
-            return Err(Refusal::Unknown);
-        };
-        self.job.collect(ticket)?;
-        Ok(value_alone(0))
+        self.job.collect(known(ticket)?)?;
+        Ok(Granted::default())
     }
 
     fn exit(&mut self, child: u64, code: u8) -> Result<Granted, Refusal> {
-        match u32::try_from(child) {
-            Ok(child) => if_living(self.host.exit(child, code)),
-            Err(_) => Err(Refusal::Unknown),
-        }
+        if_living(self.host.exit(known(child)?, code))
     }
 
     fn stop(&mut self, child: u64) -> Result<Granted, Refusal> {
-        match u32::try_from(child) {
-            Ok(child) => if_living(self.host.stop(child)),
-            Err(_) => Err(Refusal::Unknown),
-        }
+        if_living(self.host.stop(known(child)?))
     }
 
     // Makes the call of one line.
@@ -160,8 +152,7 @@ impl Rehearsal {
         let mut text = String::new(heap);
         for (i, line) in lines.iter().enumerate() {
             let answer = self.call(*line);
-            let printed = print::lines(heap, i + 1, line.letter(), answer, &self.sheet)?;
-            text.push_str(printed.as_str())?;
+            write_line(&mut text, i + 1, line.letter(), answer, &self.sheet)?;
         }
         Ok(text)
     }

@@ -1,32 +1,29 @@
-use Rattle.std.proofs.Common.{◌+◌, ◌-◌, ◌*◌, ◌<◌, ◌⊎◌, get_or, drop, sym, ◌∙◌, inl, inr, arith}
-use Rattle.rehearsal.proofs.Digits.{too_large, on_digit, no_digit, at_end}
+-- A number that grew too large stays so, whatever digits follow.
+use Rattle.std.proofs.Common.{◌≡◌, ℕ, ◌+◌, ◌-◌, ◌*◌, ◌^◌, ◌<◌, ◌≤◌, true, false, if◌then◌else◌, List, [], ◌∷◌, length, drop, None, sym, refl, ◌∙◌, arith, length-drop}
+use Rattle.std.specs.Char.{is_ascii_digit}
+use Rattle.std.specs.Option.{option_and_then}
+use Rattle.rehearsal.specs.Numbers.{below, read_on}
 use Rattle.rehearsal.proofs.token.digits.Goals as goal
-use Rattle.rehearsal.proofs.token.digits.Goals.{then-b-lt48-via-then-b-lt48, then-b-lt48-via-else-b-lt48+then-b-gt57}
 
-pub returns-then-b-lt48 : goal.returns-then-b-lt48
-returns-then-b-lt48 c =
-    let s = c.args.field.now in
-    let i = c.loop-b.b-index in
-    let w : (get_or s i 0 < 48) ⊎ (57 < get_or s i 0) = elim c.then-b-lt48.branch [ then-b-lt48-via-then-b-lt48 w ↦ inl w.if-b-lt48.true | then-b-lt48-via-else-b-lt48+then-b-gt57 w ↦ inr w.if-b-gt57.true ] in
-    sym (no_digit s i c.loop-b.n c.loop-b-test.true w) ∙ c.loop-b.invariant.0
+too_large : (n : ℕ) (bs : List ℕ) → 2 ^ 63 ≤ n → option_and_then below (read_on n bs) ≡ None
+too_large n [] h = grind arith
+too_large n (b ∷ bs) h =
+    elim (is_ascii_digit b) as (λ v. option_and_then below (if v then read_on (n * 10 + (b - 48)) bs else None) ≡ None) [ true ↦ too_large (n * 10 + (b - 48)) bs (omega arith) | false ↦ refl ]
 
-pub returns-then-n : goal.returns-then-n
-returns-then-n c =
-    let s = c.args.field.now in
-    let i = c.loop-b.b-index in
-    let n = c.loop-b.n in
-    sym (on_digit s i n c.loop-b-test.true c.if-b-lt48.false c.if-b-gt57.false ∙ too_large (n * 10 + (get_or s i 0 - 48)) (drop (i + 1) s) (omega arith)) ∙ c.loop-b.invariant.0
+-- where another digit makes it too large
+grows : (n : ℕ) (bs : List ℕ) → 0 < length bs → 2 ^ 63 ≤ n * 10 → option_and_then below (read_on n bs) ≡ None
+grows n [] l h = absurd (omega arith)
+grows n (b ∷ bs) l h =
+    elim (is_ascii_digit b) as (λ v. option_and_then below (if v then read_on (n * 10 + (b - 48)) bs else None) ≡ None) [ true ↦ too_large (n * 10 + (b - 48)) bs (omega arith) | false ↦ refl ]
 
-pub returns-then-n-ge-LIMIT : goal.returns-then-n-ge-LIMIT
-returns-then-n-ge-LIMIT c =
-    let s = c.args.field.now in
-    let i = c.loop-b.b-index in
-    let n = c.loop-b.n in
-    sym (on_digit s i n c.loop-b-test.true c.if-b-lt48.false c.if-b-gt57.false ∙ too_large (n * 10 + (get_or s i 0 - 48)) (drop (i + 1) s) (omega arith)) ∙ c.loop-b.invariant.0
+pub returns-in_err-checked_mul : goal.returns-in_err-checked_mul
+returns-in_err-checked_mul c =
+    let large : 2 ^ 63 ≤ c.loop-byte.n * 10 = grind arith in
+    let more : 0 < length (drop c.loop-byte.byte-index c.args.field.now) = omega (arith, length-drop c.loop-byte.byte-index c.args.field.now) in
+    c.from_residual-in_err-checked_mul.ensures ∙ sym (grows c.loop-byte.n _ more large) ∙ c.loop-byte.invariant
 
-pub loop-b-preserved : goal.loop-b-preserved
-loop-b-preserved c =
-    (sym (on_digit c.args.field.now c.loop-b.b-index c.loop-b.n c.loop-b-test.true c.if-b-lt48.false c.if-b-gt57.false) ∙ c.loop-b.invariant.0, omega arith)
-
-pub returns : goal.returns
-returns c = sym (at_end c.args.field.now c.loop-b.b-index c.loop-b.n c.loop-b-test.false c.loop-b.invariant.1) ∙ c.loop-b.invariant.0
+pub returns-in_err-n : goal.returns-in_err-n
+returns-in_err-n c =
+    let large : 2 ^ 63 ≤ c.loop-byte.n * 10 = grind arith in
+    let more : 0 < length (drop c.loop-byte.byte-index c.args.field.now) = omega (arith, length-drop c.loop-byte.byte-index c.args.field.now) in
+    c.from_residual-in_err-n.ensures ∙ sym (grows c.loop-byte.n _ more large) ∙ c.loop-byte.invariant
