@@ -2,4 +2,5 @@ pub mod Parts
 pub mod Numbers
 pub mod Lines
 pub mod Script
+pub mod Calls
 pub mod Printed

@@ -1,6 +1,12 @@
 // A script's calls, made on one job. What is printed is compared with stored outputs.
-ghost use Rattle.std.specs.Prelude.{◌≡◌, ◌^◌, [], length, is_ok, IfOk, if◌then◌else◌, Ok, Err, string_bytes, nat_le, nat_lt};
+ghost use Rattle.std.specs.Prelude.{◌≡◌, ◌^◌, [], length, is_ok, IfOk, if◌then◌else◌, Ok, Err, string_bytes, nat_le, nat_lt, MatchResult};
 ghost use Rattle.supervisor.specs.declared.errors.Refusal.TheVariants.{Unknown};
+ghost use Rattle.supervisor.specs.Steps.{job_view};
+ghost use Rattle.supervisor.specs.Job as Spec;
+ghost use Rattle.host.specs.declared.state.ProcessEnd.TheVariants.{Exited};
+ghost use Rattle.hosts.specs.declared.children.Life.TheVariants as Life;
+ghost use Rattle.std.specs.Int.{from_bool};
+ghost use Rattle.rehearsal.specs.Calls.{answered, answering, AsksJob, collected, IsFresh, looked, Makes, Plays, sent, TakesStep, TellsChild};
 
 use crate::line::{Line, Send, StepKind};
 use crate::print::write_line;
@@ -63,7 +69,9 @@ fn if_living(living: bool) -> Result<Granted, Refusal>
 
 impl Rehearsal {
     // With options and mask 0.
-    pub(crate) fn new() -> Rehearsal {
+    pub(crate) fn new() -> Rehearsal
+        ensures { IsFresh 0 0 result }
+    {
         let Ok(made) = Rehearsal::with(0, 0) else {
             unreachable!()
         };
@@ -72,7 +80,8 @@ impl Rehearsal {
 
     // Bits of the mask above 31 name no signal.
     fn with(options: u8, mask: u64) -> Result<Rehearsal, Refusal>
-        ensures { is_ok result ≡ nat_le options 15 }
+        ensures granted { is_ok result ≡ nat_le options 15 }
+        ensures made { MatchResult result (IsFresh options mask) (λ refusal. Spec.make 1 options ≡ Err refusal) }
     {
         let job = Job::new(PROGRAM, options)?;
         let host = SimulatedHost::new((mask & 0xffff_ffff) as u32, job.command().options);
@@ -84,13 +93,17 @@ impl Rehearsal {
         })
     }
 
-    fn make(&mut self, options: u64, mask: u64) -> Result<Granted, Refusal> {
+    fn make(&mut self, options: u64, mask: u64) -> Result<Granted, Refusal>
+        ensures { Makes options mask self.old result self.new }
+    {
         let options = u8::try_from(options).map_err(|_| Refusal::Number)?;
         *self = Rehearsal::with(options, mask)?;
         Ok(Granted::default())
     }
 
-    fn send(&mut self, send: Send) -> Result<Granted, Refusal> {
+    fn send(&mut self, send: Send) -> Result<Granted, Refusal>
+        ensures { AsksJob (answering (λ ticket. ticket) (sent send (job_view self.old.job))) self.old result self.new }
+    {
         let ticket = match send {
             Send::Start => self.job.start()?,
             Send::Stop => self.job.stop()?,
@@ -99,7 +112,9 @@ impl Rehearsal {
         Ok(ticket.into())
     }
 
-    fn step(&mut self, kind: StepKind, time: u64) -> Result<Granted, Refusal> {
+    fn step(&mut self, kind: StepKind, time: u64) -> Result<Granted, Refusal>
+        ensures { TakesStep kind time self.old result self.new }
+    {
         let stepped = match kind {
             StepKind::Child => self
                 .job
@@ -114,26 +129,36 @@ impl Rehearsal {
         })
     }
 
-    fn look(&self, ticket: u64) -> Result<Granted, Refusal> {
+    fn look(&self, ticket: u64) -> Result<Granted, Refusal>
+        ensures { result ≡ answered from_bool (looked ticket (job_view self.now.job)) }
+    {
         let done = self.job.look(known(ticket)?)?;
         Ok(u32::from(done).into())
     }
 
-    fn collect(&mut self, ticket: u64) -> Result<Granted, Refusal> {
+    fn collect(&mut self, ticket: u64) -> Result<Granted, Refusal>
+        ensures { AsksJob (answering (λ _. 0) (collected ticket (job_view self.old.job))) self.old result self.new }
+    {
         self.job.collect(known(ticket)?)?;
         Ok(Granted::default())
     }
 
-    fn exit(&mut self, child: u64, code: u8) -> Result<Granted, Refusal> {
+    fn exit(&mut self, child: u64, code: u8) -> Result<Granted, Refusal>
+        ensures { TellsChild child (Life.Ended (Exited code)) self.old result self.new }
+    {
         if_living(self.host.exit(known(child)?, code))
     }
 
-    fn stop(&mut self, child: u64) -> Result<Granted, Refusal> {
+    fn stop(&mut self, child: u64) -> Result<Granted, Refusal>
+        ensures { TellsChild child Life.Stopped self.old result self.new }
+    {
         if_living(self.host.stop(known(child)?))
     }
 
     // Makes the call of one line.
-    fn call(&mut self, line: Line) -> Result<Granted, Refusal> {
+    fn call(&mut self, line: Line) -> Result<Granted, Refusal>
+        ensures { Plays line self.old result self.new }
+    {
         match line {
             Line::Make { options, mask } => self.make(options, mask),
             Line::Send(send) => self.send(send),
