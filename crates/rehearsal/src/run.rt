@@ -7,6 +7,7 @@ ghost use Rattle.host.specs.declared.state.ProcessEnd.TheVariants.{Exited};
 ghost use Rattle.hosts.specs.declared.children.Life.TheVariants as Life;
 ghost use Rattle.std.specs.Int.{from_bool};
 ghost use Rattle.rehearsal.specs.Calls.{answered, answering, AsksJob, collected, IsFresh, looked, Makes, Plays, sent, TakesStep, TellsChild};
+ghost use Rattle.rehearsal.specs.Printed.{Performs};
 
 use crate::line::{Line, Send, StepKind};
 use crate::print::write_line;
@@ -172,7 +173,7 @@ impl Rehearsal {
 
     // Makes the calls of the lines, in order, and gives the text of their answers.
     pub(crate) fn perform(&mut self, heap: Global, lines: &[Line]) -> Result<String, AllocError>
-        ensures { length lines.now ≡ 0 → IfOk result (λ text. string_bytes text ≡ []) }
+        ensures { IfOk result (λ text. Performs 1 lines.now self.old (string_bytes text)) }
     {
         let mut text = String::new(heap);
         for (i, line) in lines.iter().enumerate() {
