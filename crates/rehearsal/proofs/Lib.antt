@@ -1,1 +1,2 @@
+-- The lemmas that several answers share.
 pub mod Reading

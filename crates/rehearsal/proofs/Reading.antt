@@ -2,7 +2,7 @@
 use Rattle.std.proofs.Common.{◌≡◌, ℕ, ◌+◌, ◌<◌, ◌≤◌, min, ◌≢◌, Bool, true, false, cond, eqb, List, [], ◌∷◌, ◌++◌, length, get_or, take, Some, Ok, Err, Result, sym, refl, ap, ◌∙◌, append_assoc, arith, ⊎_elim, length-append, ltb, Option}
 use Rattle.std.specs.List.{All, IsFirstMatchOrLen, onto_first, slice_split}
 use Rattle.std.proofs.str.Laws.{order}
-use Rattle.std.specs.Result.{IsErr, IsErrAnd}
+use Rattle.std.specs.Result.{IsErr, IsErrAnd, MatchResult}
 use Rattle.std.proofs.lemmas.Bool.{cond-false, eqb-true, le-ltb}
 use Rattle.std.proofs.lemmas.List.{get_or_append_left, take_more, take_all}
 use Rattle.std.proofs.lemmas.List.Elements.{All-from_all_within, AllWithin-upto}
@@ -13,7 +13,7 @@ use Rattle.rehearsal.specs.declared.script.Fault as Faults
 use Rattle.rehearsal.specs.Lines.{line_of}
 use Rattle.rehearsal.specs.declared.script.ReadError.{ReadError}
 use Rattle.rehearsal.specs.declared.script.ReadError.TheVariants.{Faulty, Memory}
-use Rattle.rehearsal.specs.Script.{with_line, lines_from, script_of, Reads}
+use Rattle.rehearsal.specs.Script.{with_line, lines_from, script_of, Explains}
 
 -- whether a byte ends a line
 abbrev pub is_feed : ℕ → Bool
@@ -81,7 +81,7 @@ pub script_from : (s : List ℕ) (read : List Line) (left : Result (List Line) F
 script_from s read left short e = cond-false (ltb 32768 (length s)) (Err Faults.TheVariants.TooLong) (said 1 s) (le-ltb 32768 (length s) short) ∙ sym e
 
 -- a fault that is answered is the script's
-pub faulty : {V : Type 0} (items : V → List Line) (fault : Fault) (r : Result V ReadError) (says : Result (List Line) Fault) → IsErr r × IsErrAnd r (λ e. e ≡ Faulty fault) → says ≡ Err fault → Reads items r says
-faulty items fault (Ok v) says k e = let z : ◌≡◌ {A = ℕ} 0 1 = cc in absurd (omega arith)
-faulty items fault (Err (Faulty f)) says k e = let same : f ≡ fault = cc in e ∙ ap Err (sym same)
-faulty items fault (Err Memory) says k e = tt
+pub faulty : {V : Type 0} (P : V → Type 0) (fault : Fault) (r : Result V ReadError) (says : Result (List Line) Fault) → IsErr r × IsErrAnd r (λ e. e ≡ Faulty fault) → says ≡ Err fault → MatchResult r P (Explains says)
+faulty P fault (Ok v) says k e = let z : ◌≡◌ {A = ℕ} 0 1 = cc in absurd (omega arith)
+faulty P fault (Err (Faulty f)) says k e = let same : f ≡ fault = cc in e ∙ ap Err (sym same)
+faulty P fault (Err Memory) says k e = tt

@@ -1,3 +1,4 @@
+-- The definitions that the contracts cite.
 pub mod Parts
 pub mod Numbers
 pub mod Lines

@@ -27,8 +27,7 @@ script_of script =
     if nat_lt 32768 (length script) then Err Faults.TheVariants.TooLong
     else lines_from 1 (slice_split (λ b. b == 10) script)
 
--- an answer fits what a script says: the same lines, or the same fault, or memory was wanting
-abbrev pub Reads : {V : Type 0} → (V → List Line) → Result V ReadError → Result (List Line) Fault → Type 0
-Reads items (Ok lines) says = says ≡ Ok (items lines)
-Reads items (Err (Faulty fault)) says = says ≡ Err fault
-Reads items (Err Memory) says = Unit {0}
+-- why a script gave no lines: what it says is this fault, or memory was wanting
+abbrev pub Explains : Result (List Line) Fault → ReadError → Type 0
+Explains says (Faulty fault) = says ≡ Err fault
+Explains says Memory = Unit {0}

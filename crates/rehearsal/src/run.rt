@@ -6,7 +6,7 @@ ghost use Rattle.supervisor.specs.Job as Spec;
 ghost use Rattle.host.specs.declared.state.ProcessEnd.TheVariants.{Exited};
 ghost use Rattle.hosts.specs.declared.children.Life.TheVariants as Life;
 ghost use Rattle.std.specs.Int.{from_bool};
-ghost use Rattle.rehearsal.specs.Calls.{answered, answering, AsksJob, collected, IsFresh, looked, Makes, Plays, sent, TakesStep, TellsChild};
+ghost use Rattle.rehearsal.specs.Calls.{alone, answered, answering, AsksJob, collected, IsFresh, looked, Makes, Plays, sent, TakesStep, TellsChild};
 ghost use Rattle.rehearsal.specs.Printed.{Performs};
 
 use crate::line::{Line, Send, StepKind};
@@ -39,7 +39,7 @@ pub struct Granted {
 
 // A value alone, without records.
 impl From<u32> for Granted {
-    ghost from_gives = { λ value granted. granted ≡ record { value = value; records = 0 } };
+    ghost from_gives = { λ value granted. granted ≡ alone value };
 
     fn from(value: u32) -> Granted {
         Granted { value, records: 0 }
@@ -63,7 +63,7 @@ fn known(number: u64) -> Result<u32, Refusal>
 
 // Where nothing living has that number, the child is unknown.
 fn if_living(living: bool) -> Result<Granted, Refusal>
-    ensures { result ≡ (if living then Ok (record { value = 0; records = 0 }) else Err Unknown) }
+    ensures { result ≡ (if living then Ok (alone 0) else Err Unknown) }
 {
     living.then_some(Granted::default()).ok_or(Refusal::Unknown)
 }

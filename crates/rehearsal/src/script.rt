@@ -1,7 +1,7 @@
 // The lines of a script.
-ghost use Rattle.std.specs.Prelude.{◌≡◌, vec_items};
+ghost use Rattle.std.specs.Prelude.{◌≡◌, Ok, MatchResult};
 ghost use Rattle.rehearsal.specs.declared.script.ReadError.TheVariants.{Faulty, Memory};
-ghost use Rattle.rehearsal.specs.Script.{Reads, script_of};
+ghost use Rattle.rehearsal.specs.Script.{Explains, script_of};
 
 use crate::line::{Line, parse};
 use std::alloc::{AllocError, AllocFailed, Global};
@@ -10,14 +10,14 @@ use std::alloc::{AllocError, AllocFailed, Global};
 const MOST_BYTES: usize = 32768;
 
 // What is wrong with a script: it is too long, or the line of this number is faulty.
-#[derive(Clone, Copy)]
+#[derive(Clone, Copy, Debug, PartialEq, Eq)]
 pub enum Fault {
     TooLong,
     Line(usize),
 }
 
 // Why a script gives no lines.
-#[derive(Drop)]
+#[derive(Clone, Copy, Debug, PartialEq, Eq)]
 pub enum ReadError {
     Faulty(Fault),
     Memory,
@@ -49,7 +49,7 @@ impl<T: Drop> From<AllocFailed<T>> for ReadError {
 
 // What the lines of a script say, or what is wrong with it.
 pub(crate) fn read(heap: Global, script: &[u8]) -> Result<Vec<Line>, ReadError>
-    ensures { Reads vec_items result (script_of script.now) }
+    ensures { MatchResult result (λ lines. script_of script.now ≡ Ok lines.items) (Explains (script_of script.now)) }
 {
     if script.len() > MOST_BYTES {
         return Err(Fault::TooLong.into());

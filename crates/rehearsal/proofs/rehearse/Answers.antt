@@ -2,7 +2,6 @@
 use Rattle.std.proofs.Common.{Ok, string_bytes}
 use Rattle.std.proofs.lemmas.Result.{IfOk-weaker}
 use Rattle.rehearsal.specs.Printed.{Performs, Printed}
-use Rattle.rehearsal.specs.Script.{script_of}
 use Rattle.rehearsal.proofs.rehearse.Goals as goal
 
 pub returns-in-Ok : goal.returns-in-Ok

@@ -1,3 +1,4 @@
+-- A name is known by its length and its bytes.
 use Rattle.std.proofs.Common.{◌≡◌, codes, refl, rules, arith}
 use Rattle.std.proofs.lemmas.Slice.Eq.{text_from_reads}
 use Rattle.rehearsal.proofs.line.send_named.Goals as goal

@@ -1,3 +1,4 @@
+-- The text so far ends with the records so far.
 use Rattle.std.proofs.Common.{◌≡◌, ◌++◌, take, string_bytes}
 use Rattle.std.specs.List.{flat_map}
 use Rattle.rehearsal.specs.Printed.{record_text}

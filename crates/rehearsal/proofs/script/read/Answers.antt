@@ -1,4 +1,5 @@
-use Rattle.std.proofs.Common.{◌≡◌, ◌+◌, ◌++◌, ◌∷◌, [], Err, Some, None, sym, ap, ◌∙◌, rules, tests, arith, eqb, vec_items}
+-- Each piece is a line, or the first faulty one.
+use Rattle.std.proofs.Common.{◌≡◌, ◌+◌, ◌++◌, ◌∷◌, [], Err, Some, None, sym, ap, ◌∙◌, rules, tests, arith, eqb}
 use Rattle.std.specs.Iterator.Adapters.{enumerate_count, enumerate_source}
 use Rattle.std.specs.Option.{ok_or}
 use Rattle.std.specs.Result.{result_ok}
@@ -39,7 +40,7 @@ returns-in_err-text c =
     let answer : Err c.in_err-text.field-0.0 ≡ Err (Faults.TheVariants.Line n) = sym c.in_err-text.was ∙ c.ok_or.ensures.value ∙ ap (λ o. ok_or o (Faults.TheVariants.Line n)) none in
     let fault : c.in_err-text.field-0.0 ≡ Faults.TheVariants.Line n = cc in
     let left = unended (piece (goal.at.returns-in_err-text c).In-Some) (enumerate_count c.loop-i.i-iterator + 1) (rw none at stripped) in
-    let says = script_from c.args.script.now _ _ (omega arith) c.loop-i.invariant.read ∙ ap (after_lines (vec_items c.loop-i.lines)) left in
+    let says = script_from c.args.script.now _ _ (omega arith) c.loop-i.invariant.read ∙ ap (after_lines c.loop-i.lines.items) left in
     faulty _ _ _ _ (rw (fault, c.in-Some.ensures.steps.1) at c.from_residual.ensures) says
 
 pub returns-in_err-line : goal.returns-in_err-line
@@ -51,7 +52,7 @@ returns-in_err-line c =
     let answer : Err c.in_err-line.field-0.0 ≡ Err (Faults.TheVariants.Line n) = sym c.in_err-line.was ∙ c.ok_or-in-loop-i.ensures.value ∙ ap (λ o. ok_or o (Faults.TheVariants.Line n)) none in
     let fault : c.in_err-line.field-0.0 ≡ Faults.TheVariants.Line n = cc in
     let left = first_line (piece at.In-Some) (enumerate_count c.loop-i.i-iterator + 1) c.in_ok-text.text.now None (fed at.In_ok-text) (sym none ∙ c.parse.ensures ∙ ap (λ i. line_of (eqb (i + 1) 1) c.in_ok-text.text.now) count) in
-    let says = script_from c.args.script.now _ _ (omega arith) c.loop-i.invariant.read ∙ ap (after_lines (vec_items c.loop-i.lines)) left in
+    let says = script_from c.args.script.now _ _ (omega arith) c.loop-i.invariant.read ∙ ap (after_lines c.loop-i.lines.items) left in
     faulty _ _ _ _ (rw (fault, count) at c.from_residual-in_err-line.ensures) says
 
 pub loop-i-preserved : goal.loop-i-preserved
@@ -65,5 +66,5 @@ loop-i-preserved c =
     record {
       can_next = search rules;
       is_finite = search rules;
-      read = ap (λ i. after_lines (vec_items c.push.new.self) (said (i + 1) behind)) steps.2 ∙ ap (λ ls. after_lines ls (said (n + 1) behind)) c.in_ok-push.ensures.items ∙ one_more _ n c.in_ok-line.line _ ∙ ap (after_lines (vec_items c.loop-i.lines)) (sym left) ∙ c.loop-i.invariant.read;
+      read = ap (λ i. after_lines c.push.new.self.items (said (i + 1) behind)) steps.2 ∙ ap (λ ls. after_lines ls (said (n + 1) behind)) c.in_ok-push.ensures.items ∙ one_more _ n c.in_ok-line.line _ ∙ ap (after_lines c.loop-i.lines.items) (sym left) ∙ c.loop-i.invariant.read;
     }

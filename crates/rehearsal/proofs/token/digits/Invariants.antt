@@ -1,3 +1,4 @@
+-- The digits that are left, read on from the number so far, write the number of all.
 use Rattle.std.proofs.Common.{◌≡◌, drop}
 use Rattle.std.specs.Option.{option_and_then}
 use Rattle.rehearsal.specs.Numbers.{below, digits_number, read_on}

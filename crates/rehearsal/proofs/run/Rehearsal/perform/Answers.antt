@@ -1,5 +1,5 @@
 -- A line is performed before the lines behind it.
-use Rattle.std.proofs.Common.{◌≡◌, ℕ, ◌+◌, ◌<◌, ◌++◌, List, [], length, get_or, drop, Result, string_bytes, sym, refl, ap, ◌∙◌, subst, append_assoc, append-nil, arith}
+use Rattle.std.proofs.Common.{ℕ, ◌+◌, ◌<◌, ◌++◌, List, [], length, get_or, drop, Result, string_bytes, sym, refl, ap, ◌∙◌, subst, append_assoc, append-nil}
 use Rattle.std.proofs.lemmas.List.{at_drop_more, at_drop_all}
 use Rattle.supervisor.specs.declared.errors.Refusal.{Refusal}
 use Rattle.rehearsal.specs.declared.line.Line.{Line}
