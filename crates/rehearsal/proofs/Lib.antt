@@ -1,2 +1,3 @@
 -- The lemmas that several answers share.
+pub mod Digits
 pub mod Reading

@@ -8,6 +8,7 @@ use crate::parts::cut;
 const LIMIT: u64 = 1 << 63;
 
 // The number that the digits write, if all are digits and it is below the limit.
+#[tactic(auto, using(crate::proofs::Digits::grows))]
 fn digits(field: &[u8]) -> Option<u64>
     ensures { result ≡ digits_number field.now }
 {
