@@ -1,7 +1,8 @@
 -- How the lines of a script are read, one after the other.
-use Rattle.std.proofs.Common.{◌≡◌, ℕ, ◌+◌, ◌<◌, ◌≤◌, min, ◌≢◌, Bool, true, false, cond, eqb, List, [], ◌∷◌, ◌++◌, length, get_or, take, Some, Ok, Err, Result, sym, refl, ap, ◌∙◌, append_assoc, arith, ⊎_elim, length-append, ltb, Option}
+use Rattle.std.proofs.Common.{◌≡◌, ℕ, ◌+◌, ◌<◌, ◌≤◌, min, ◌≢◌, Bool, true, false, cond, eqb, List, [], ◌∷◌, ◌++◌, length, get_or, take, Some, None, Ok, Err, Result, sym, refl, ap, ◌∙◌, append_assoc, arith, ⊎_elim, length-append, ltb, Option}
 use Rattle.std.specs.List.{All, IsFirstMatchOrLen, onto_first, slice_split}
 use Rattle.std.proofs.str.Laws.{order}
+use Rattle.std.specs.Option.{ok_or}
 use Rattle.std.specs.Result.{IsErr, IsErrAnd, MatchResult}
 use Rattle.std.proofs.lemmas.Bool.{cond-false, eqb-true, le-ltb}
 use Rattle.std.proofs.lemmas.List.{get_or_append_left, take_more, take_all}
@@ -80,8 +81,13 @@ unended {rest} {piece} {behind} is n unfed =
 pub script_from : (s : List ℕ) (read : List Line) (left : Result (List Line) Fault) → length s ≤ 32768 → after_lines read left ≡ said 1 s → script_of s ≡ after_lines read left
 script_from s read left short e = cond-false (ltb 32768 (length s)) (Err Faults.TheVariants.TooLong) (said 1 s) (le-ltb 32768 (length s) short) ∙ sym e
 
+-- why an `ok_or` is an error
+pub missing : {A : Type 0} (o : Option A) (fault f : Fault) (r : Result A Fault) → r ≡ ok_or o fault → r ≡ Err f → (o ≡ None) × (f ≡ fault)
+missing None fault f r e k = (refl, cc)
+missing (Some x) fault f r e k = absurd cc
+
 -- a fault that is answered is the script's
 pub faulty : {V : Type 0} (P : V → Type 0) (fault : Fault) (r : Result V ReadError) (says : Result (List Line) Fault) → IsErr r × IsErrAnd r (λ e. e ≡ Faulty fault) → says ≡ Err fault → MatchResult r P (Explains says)
-faulty P fault (Ok v) says k e = let z : ◌≡◌ {A = ℕ} 0 1 = cc in absurd (omega arith)
+faulty P fault (Ok v) says k e = absurd cc
 faulty P fault (Err (Faulty f)) says k e = let same : f ≡ fault = cc in e ∙ ap Err (sym same)
 faulty P fault (Err Memory) says k e = tt

@@ -1,5 +1,4 @@
 // The rehearsal: a script of calls on one job is checked, run on the simulated host and the absent terminal, and printed.
-// What is printed is compared with stored outputs.
 #![tactic(auto)]
 
 mod line;

@@ -1,11 +1,11 @@
-// A script's calls, made on one job. What is printed is compared with stored outputs.
-ghost use Rattle.std.specs.Prelude.{◌≡◌, ◌^◌, [], length, is_ok, IfOk, if◌then◌else◌, Ok, Err, string_bytes, nat_le, nat_lt, MatchResult};
-ghost use Rattle.supervisor.specs.declared.errors.Refusal.TheVariants.{Unknown};
-ghost use Rattle.supervisor.specs.Steps.{job_view};
-ghost use Rattle.supervisor.specs.Job as Spec;
+// A script's calls, made on one job.
+ghost use Rattle.std.specs.Prelude.{◌≡◌, ◌^◌, is_ok, IfOk, if◌then◌else◌, Ok, Err, string_bytes, nat_le, nat_lt, MatchResult};
+ghost use Rattle.std.specs.Int.{from_bool};
 ghost use Rattle.host.specs.declared.state.ProcessEnd.TheVariants.{Exited};
 ghost use Rattle.hosts.specs.declared.children.Life.TheVariants as Life;
-ghost use Rattle.std.specs.Int.{from_bool};
+ghost use Rattle.supervisor.specs.declared.errors.Refusal.TheVariants.{Unknown};
+ghost use Rattle.supervisor.specs.Job as Spec;
+ghost use Rattle.supervisor.specs.Steps.{job_view};
 ghost use Rattle.rehearsal.specs.Calls.{alone, answered, answering, AsksJob, collected, IsFresh, looked, Makes, Plays, sent, TakesStep, TellsChild};
 ghost use Rattle.rehearsal.specs.Printed.{Performs};
 
