@@ -1,5 +1,5 @@
 -- The absent terminal: what its calls are answered, and its book.
-use Rattle.std.specs.Prelude.{Err}
+use Rattle.std.specs.Prelude.{◌≡◌, Err}
 use Rattle.host.specs.Fault.{fault}
 use Rattle.host.specs.Calls.{TerminalCall, owner, acquire, release, TerminalReply}
 use Rattle.host.specs.Books.{TerminalBook, next_count}
@@ -21,4 +21,8 @@ answer release = tt
 
 -- the book with one more call served
 abbrev pub counted : TerminalBook → TerminalBook
-counted b = record { own = b.own; grants = b.grants; served = next_count b.served }
+counted b = record b { served = next_count b.served }
+
+-- a call of a terminal was answered so, and left the terminal so
+abbrev pub Did : AbsentTerminal → (c : TerminalCall) → TerminalReply c → AbsentTerminal → Type 0
+Did t c a u = (a ≡ answer c) × (book_of u ≡ counted (book_of t))

@@ -1,7 +1,7 @@
 // The absent terminal: nobody has its foreground, and nobody gets it.
 ghost use Rattle.std.specs.Prelude.{◌≡◌};
 ghost use Rattle.std.proofs.Common.{sym, subst, rules};
-ghost use Rattle.foreground.specs.Absent.{answer, book_of, counted, fresh};
+ghost use Rattle.foreground.specs.Absent.{Did, answer, book_of, counted, fresh};
 ghost use Rattle.host.specs.Calls.{TerminalReply};
 ghost use Rattle.host.specs.Books.{TerminalBook, TerminalKeeps};
 ghost use Rattle.foreground.specs.Book.{answered};
@@ -32,7 +32,7 @@ impl AbsentTerminal {
 impl Terminal for AbsentTerminal {
     ghost book = { book_of };
 
-    ghost did = { λ t c a u. (a ≡ answer c) × (book_of u ≡ counted (book_of t)) };
+    ghost did = { Did };
 
     ghost keeps = { λ t c a u d.
         subst (λ (b : TerminalBook). TerminalKeeps (book_of t) c a b) (sym d.1)

@@ -1,5 +1,5 @@
 -- The simulated host: what each call is answered, and what the host holds after it.
-use Rattle.std.specs.Prelude.{ℕ, ◌+◌, if◌then◌else◌, List, [], ◌∷◌, ◌++◌, Some, None, Ok, Err, Option, Result, nat_le, ⊤}
+use Rattle.std.specs.Prelude.{◌≡◌, ℕ, ◌+◌, if◌then◌else◌, List, [], ◌∷◌, ◌++◌, Some, None, Ok, Err, Option, Result, nat_le, ⊤}
 use Rattle.host.specs.Fault.{fault}
 use Rattle.host.specs.declared.fault.Fault.{Fault}
 use Rattle.host.specs.declared.command.SpawnOptions.{SpawnOptions}
@@ -108,6 +108,10 @@ counted s = record s { served = next_count s.served }
 -- every call is served, and a spawn counts as one, also if it faults
 abbrev pub after : Sim → HostCall → Sim
 after s c = record { children = children_after s c; next = next_after s c; mask = s.mask; options = s.options; served = next_count s.served; spawns = spawns_after s.spawns c }
+
+-- a call of a host was answered so, and left the host so
+abbrev pub Did : SimulatedHost → (c : HostCall) → HostReply c → SimulatedHost → Type 0
+Did h c a k = (a ≡ answer (view h) c) × (view k ≡ after (view h) c) × IsFit c a
 
 -- WHAT A REHEARSAL MAKES HAPPEN
 

@@ -2,7 +2,7 @@
 ghost use Rattle.std.specs.Prelude.{◌≡◌};
 ghost use Rattle.host.specs.Calls as Calls;
 ghost use Rattle.hosts.specs.Children.{is_living, life_of};
-ghost use Rattle.hosts.specs.Simulated.{IsFit, after, answer, book_of, counted, fresh, happened, view};
+ghost use Rattle.hosts.specs.Simulated.{Did, after, answer, book_of, counted, fresh, happened, view};
 ghost use Rattle.hosts.specs.Roster.{items};
 ghost use Rattle.hosts.specs.Book;
 
@@ -84,7 +84,7 @@ impl Host for SimulatedHost {
 
     ghost book = { λ h. book_of (view h) };
 
-    ghost did = { λ h c a k. (a ≡ answer (view h) c) × (view k ≡ after (view h) c) × IsFit c a };
+    ghost did = { Did };
 
     ghost keeps = { λ h c a k d. Book.keeps (view h) h.roster.begun h.roster.numbered c a (view k) d.0 d.1 d.2 };
 

@@ -1,4 +1,3 @@
-pub mod Cuts
+-- The lemmas that several answers share.
 pub mod Digits
-pub mod Printing
 pub mod Reading

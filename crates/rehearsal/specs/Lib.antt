@@ -1,5 +1,7 @@
+-- The definitions that the contracts cite.
 pub mod Parts
 pub mod Numbers
 pub mod Lines
 pub mod Script
+pub mod Calls
 pub mod Printed

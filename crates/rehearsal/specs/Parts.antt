@@ -1,12 +1,8 @@
 -- A text taken apart at a mark.
-use Rattle.std.specs.Prelude.{ℕ, cond, List, [], ◌∷◌, Some, None, Option, ◌==◌}
+use Rattle.std.specs.Prelude.{ℕ, ◌+◌, List, take, drop, Option, ◌==◌}
+use Rattle.std.specs.Option.{option_map}
+use Rattle.std.specs.List.{position}
 
--- what stands before the first mark; all where there is none
-abbrev pub before : ℕ → List ℕ → List ℕ
-before mark [] = []
-before mark (b ∷ bs) = cond (b == mark) [] (b ∷ before mark bs)
-
--- what stands behind the first mark, if there is one
-abbrev pub behind : ℕ → List ℕ → Option (List ℕ)
-behind mark [] = None
-behind mark (b ∷ bs) = cond (b == mark) (Some bs) (behind mark bs)
+-- what stands before the first mark and what stands behind it, if there is a mark
+abbrev pub parted : ℕ → List ℕ → Option (List ℕ × List ℕ)
+parted mark text = option_map (λ at. (take at text, drop (at + 1) text)) (position (λ b. b == mark) text)

@@ -1,5 +1,4 @@
 // The rehearsal: a script of calls on one job is checked, run on the simulated host and the absent terminal, and printed.
-// What is printed is compared with stored outputs.
 #![tactic(auto)]
 
 mod line;
@@ -14,7 +13,7 @@ ghost use Rattle.rehearsal.specs.Printed.{Printed};
 ghost use Rattle.rehearsal.specs.Script.{script_of};
 
 use crate::run::Rehearsal;
-use crate::script::Fault;
+use crate::script::ReadError;
 use std::alloc::{AllocError, Global};
 
 // The text that a script prints: what each of its lines answers with the records of its calls, or the number of a faulty line.
@@ -22,12 +21,9 @@ pub fn rehearse(heap: Global, script: &[u8]) -> Result<String, AllocError>
     ensures { IfOk result (λ text. Printed (script_of script.now) (string_bytes text)) }
 {
     match script::read(heap, script) {
-        Ok(lines) => {
-            let mut rehearsal = Rehearsal::new();
-            rehearsal.perform(heap, &lines)
-        }
-        Err(Fault::Line(number)) => print::faulty(heap, number),
-        Err(Fault::Memory) => Err(AllocError),
+        Ok(lines) => Rehearsal::new().perform(heap, &lines),
+        Err(ReadError::Faulty(fault)) => format!(in heap; "{fault}"),
+        Err(ReadError::Memory) => Err(AllocError),
     }
 }
 

@@ -1,23 +1,12 @@
 // What a line of a script says.
-ghost use Rattle.std.specs.Prelude.{◌≡◌, if◌then◌else◌, None};
-ghost use Rattle.rehearsal.specs.Lines.{collect_line, event_of, exit_line, letter_of, lettered, line_by, line_of, look_line, make_line, same, send_line, send_named, step_line, step_of, stop_line};
-ghost use Rattle.std.specs.Option.{option_map};
+ghost use Rattle.std.specs.Prelude.{◌≡◌};
+ghost use Rattle.std.specs.Option.{option_and_then, option_map};
+ghost use Rattle.rehearsal.specs.Lines.{event_line, exit_line, letter_of, lettered, line_by, line_of, send_line, send_named, step_kind, step_line, stop_line};
 ghost use Rattle.rehearsal.specs.Numbers.{number_of, numbers_of};
 
-use crate::token::{Token, one_number, token_of, two_numbers};
-
-#[derive(Clone, Copy)]
-pub enum Send {
-    Start,
-    Stop,
-    ToWait,
-}
-
-#[derive(Clone, Copy)]
-pub enum StepKind {
-    Child,
-    Control,
-}
+use crate::token::{number, two_numbers};
+use supervisor::answers::StepKind;
+use supervisor::sends::Send;
 
 #[derive(Clone, Copy)]
 pub enum Line {
@@ -46,29 +35,19 @@ impl Line {
     }
 }
 
-// Whether a word is a name.
-fn is(word: &[u8], name: &[u8]) -> bool
-    ensures { result ≡ same word.now name.now }
-{
-    word == name
-}
-
-fn named(name: &[u8]) -> Option<Send>
+fn send_named(name: &[u8]) -> Option<Send>
     ensures { result ≡ send_named name.now }
 {
-    if is(name, b"start") {
-        Some(Send::Start)
-    } else if is(name, b"stop") {
-        Some(Send::Stop)
-    } else if is(name, b"to_wait") {
-        Some(Send::ToWait)
-    } else {
-        None
+    match name {
+        b"start" => Some(Send::Start),
+        b"stop" => Some(Send::Stop),
+        b"to_wait" => Some(Send::ToWait),
+        _ => None,
     }
 }
 
 // A letter and what stands behind its tab.
-fn lettered<'a>(bytes: &'a [u8]) -> Option<(u8, &'a [u8])>
+fn lettered(bytes: &[u8]) -> Option<(u8, &[u8])>
     ensures { option_map (λ p. (p.0, p.1.now)) result ≡ lettered bytes.now }
 {
     match bytes {
@@ -77,123 +56,81 @@ fn lettered<'a>(bytes: &'a [u8]) -> Option<(u8, &'a [u8])>
     }
 }
 
-// Only the first line of a script makes the job.
-fn read_make(fields: &[u8], first: bool) -> Option<Line>
-    ensures { result ≡ (if first then make_line (numbers_of fields.now) else None) }
-{
-    if !first {
-        return None;
-    }
-    match two_numbers(fields) {
-        Some((options, mask)) => Some(Line::Make { options, mask }),
-        None => None,
-    }
-}
-
-// The sends have no arguments, so their fields are one word.
+// The sends have no arguments, so their fields are one word; the name of a send is never a number.
 fn read_send(fields: &[u8]) -> Option<Line>
     ensures { result ≡ send_line (number_of fields.now) (send_named fields.now) }
 {
-    let Token::Word(name) = token_of(fields) else {
-        return None;
-    };
-    match named(name) {
-        Some(send) => Some(Line::Send(send)),
-        None => None,
-    }
+    send_named(fields).map(Line::Send)
 }
 
-fn read_time(kind: StepKind, field: &[u8]) -> Option<Line>
-    ensures { result ≡ step_line kind (number_of field.now) }
+fn step_kind(letter: u8) -> Option<StepKind>
+    ensures { result ≡ step_kind letter }
 {
-    match one_number(field) {
-        Some(time) => Some(Line::Step { kind, time }),
-        None => None,
+    match letter {
+        b'e' => Some(StepKind::Child),
+        b'c' => Some(StepKind::Control),
+        _ => None,
     }
 }
 
 fn read_step(fields: &[u8]) -> Option<Line>
-    ensures { result ≡ step_of (lettered fields.now) }
+    ensures { result ≡ option_and_then step_line (lettered fields.now) }
 {
-    match lettered(fields) {
-        Some((b'e', time)) => read_time(StepKind::Child, time),
-        Some((b'c', time)) => read_time(StepKind::Control, time),
-        _ => None,
-    }
-}
-
-fn read_look(fields: &[u8]) -> Option<Line>
-    ensures { result ≡ look_line (number_of fields.now) }
-{
-    match one_number(fields) {
-        Some(ticket) => Some(Line::Look { ticket }),
-        None => None,
-    }
-}
-
-fn read_collect(fields: &[u8]) -> Option<Line>
-    ensures { result ≡ collect_line (number_of fields.now) }
-{
-    match one_number(fields) {
-        Some(ticket) => Some(Line::Collect { ticket }),
-        None => None,
-    }
+    let (letter, time) = lettered(fields)?;
+    Some(Line::Step {
+        kind: step_kind(letter)?,
+        time: number(time)?,
+    })
 }
 
 // A child exits with a code of one byte.
 fn read_exit(fields: &[u8]) -> Option<Line>
-    ensures { result ≡ exit_line (numbers_of fields.now) }
+    ensures { result ≡ option_and_then exit_line (numbers_of fields.now) }
 {
-    match two_numbers(fields) {
-        Some((child, code)) if code <= 255 => Some(Line::Exit {
-            child,
-            code: code as u8,
-        }),
-        _ => None,
-    }
+    let (child, code) = two_numbers(fields)?;
+    let code = u8::try_from(code).ok()?;
+    Some(Line::Exit { child, code })
 }
 
 // A child is stopped by one of the four signals that stop.
 fn read_stop(fields: &[u8]) -> Option<Line>
-    ensures { result ≡ stop_line (numbers_of fields.now) }
+    ensures { result ≡ option_and_then stop_line (numbers_of fields.now) }
 {
-    match two_numbers(fields) {
-        Some((child, 19..=22)) => Some(Line::Stop { child }),
+    match two_numbers(fields)? {
+        (child, 19..=22) => Some(Line::Stop { child }),
         _ => None,
     }
 }
 
 fn read_event(fields: &[u8]) -> Option<Line>
-    ensures { result ≡ event_of (lettered fields.now) }
+    ensures { result ≡ option_and_then event_line (lettered fields.now) }
 {
-    match lettered(fields) {
-        Some((b'x', rest)) => read_exit(rest),
-        Some((b'z', rest)) => read_stop(rest),
+    match lettered(fields)? {
+        (b'x', rest) => read_exit(rest),
+        (b'z', rest) => read_stop(rest),
         _ => None,
     }
 }
 
+// Only the first line of a script makes the job.
 fn read_fields(letter: u8, fields: &[u8], first: bool) -> Option<Line>
     ensures { result ≡ line_by first letter fields.now }
 {
-    match letter as char {
-        'm' => read_make(fields, first),
-        'c' => read_send(fields),
-        's' => read_step(fields),
-        'p' => None,
-        'l' => read_look(fields),
-        'g' => read_collect(fields),
-        'w' => read_event(fields),
+    match letter {
+        b'm' if first => two_numbers(fields).map(|(options, mask)| Line::Make { options, mask }),
+        b'c' => read_send(fields),
+        b's' => read_step(fields),
+        b'l' => number(fields).map(|ticket| Line::Look { ticket }),
+        b'g' => number(fields).map(|ticket| Line::Collect { ticket }),
+        b'w' => read_event(fields),
         _ => None,
     }
 }
 
 // What a line without its line feed says; none for a faulty one.
 pub(crate) fn parse(line: &[u8], first: bool) -> Option<Line>
-    ensures { result ≡ line_of first (lettered line.now) }
+    ensures { result ≡ line_of first line.now }
 {
-    match lettered(line) {
-        Some((letter, fields)) => read_fields(letter, fields, first),
-        None => None,
-    }
+    let (letter, fields) = lettered(line)?;
+    read_fields(letter, fields, first)
 }

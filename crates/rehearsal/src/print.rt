@@ -1,104 +1,102 @@
 // The text that is printed.
-ghost use Rattle.std.specs.Prelude.{◌≡◌, true, ◌++◌, is_ok, IfOk, Ok, string_bytes};
-ghost use Rattle.rehearsal.specs.Printed.{answer_text, faulty_text, line_text, record_text, records_text};
+ghost use Rattle.std.specs.Prelude.{◌≡◌, ◌++◌, OnOk, Some, string_bytes};
+ghost use Rattle.std.specs.List.{flat_map};
+ghost use Rattle.rehearsal.specs.Printed.{answer_text, fault_text, line_text, record_text};
 
 use crate::run::Granted;
+use crate::script::Fault;
 use host::journal::Record;
-use std::alloc::{AllocError, Global};
+use std::alloc::AllocError;
+use std::fmt;
 use supervisor::errors::Refusal;
 
-// What one line prints always fits into so many bytes.
-const BYTES: usize = 512;
+// The number of a faulty line, behind that of the refusal; 0 stands for a script that is too long.
+impl fmt::Display for Fault {
+    ghost output = { λ fault. Some (fault_text fault) };
 
-fn faulty_line(heap: Global, refusal: u8, number: usize) -> Result<String, AllocError>
-    ensures { IfOk result (λ t. string_bytes t ≡ faulty_text refusal number) }
-{
-    format!(in heap; "{refusal}\t{number}\n")
+    fn fmt<W: fmt::Write>(&self, f: &mut fmt::Formatter<W>) -> fmt::Result {
+        let refusal = u8::from(Refusal::Line);
+        let number = match *self {
+            Fault::TooLong => 0,
+            Fault::Line(number) => number,
+        };
+        writeln!(f, "{refusal}\t{number}")
+    }
 }
 
-// The number of a faulty line, behind that of the refusal.
-pub(crate) fn faulty(heap: Global, number: usize) -> Result<String, AllocError>
-    ensures { IfOk result (λ t. string_bytes t ≡ faulty_text 13 number) }
-{
-    faulty_line(heap, u8::from(Refusal::Line), number)
-}
-
-fn answer_line(
-    heap: Global,
+// The answer of a line.
+#[derive(Clone, Copy)]
+struct AnswerLine {
     number: usize,
     letter: char,
     refusal: u8,
     value: u32,
-) -> Result<String, AllocError>
-    ensures { IfOk result (λ t. string_bytes t ≡ answer_text number letter refusal value) }
-{
-    format!(in heap; "{number}\t{letter}\t{refusal}\t{value}\n")
 }
 
-// A buffer that begins with the answer of a line.
-fn buffer(
-    heap: Global,
-    number: usize,
-    letter: char,
-    refusal: u8,
-    value: u32,
-) -> Result<String, AllocError>
-    ensures { IfOk result (λ t. string_bytes t ≡ answer_text number letter refusal value) }
-{
-    let mut text = String::with_capacity(heap, BYTES)?;
-    let answer = answer_line(heap, number, letter, refusal, value)?;
-    text.push_str(answer.as_str())?;
-    Ok(text)
+impl fmt::Display for AnswerLine {
+    ghost output = { λ line. Some (answer_text line.number line.letter line.refusal line.value) };
+
+    fn fmt<W: fmt::Write>(&self, f: &mut fmt::Formatter<W>) -> fmt::Result {
+        let AnswerLine {
+            number,
+            letter,
+            refusal,
+            value,
+        } = *self;
+        writeln!(f, "{number}\t{letter}\t{refusal}\t{value}")
+    }
 }
 
-fn record_line(heap: Global, written: &Record) -> Result<String, AllocError>
-    ensures { IfOk result (λ t. string_bytes t ≡ record_text written.now) }
-{
-    let call = u8::from(written.call);
-    let child = written.child;
-    let number = written.number;
-    let answer = i64::from(written.answer);
-    format!(in heap; "j\t{call}\t{child}\t{number}\t{answer}\n")
+// A record of a step.
+#[derive(Clone, Copy)]
+struct RecordLine<'a>(&'a Record);
+
+impl fmt::Display for RecordLine<'_> {
+    ghost output = { λ line. Some (record_text line.0.now) };
+
+    fn fmt<W: fmt::Write>(&self, f: &mut fmt::Formatter<W>) -> fmt::Result {
+        let Record {
+            call,
+            child,
+            number,
+            answer,
+        } = *self.0;
+        let call = u8::from(call);
+        let answer = i64::from(answer);
+        writeln!(f, "j\t{call}\t{child}\t{number}\t{answer}")
+    }
 }
 
 // Adds records to a text.
-fn add_records(heap: Global, text: &mut String, records: &[Record]) -> Result<(), AllocError>
-    ensures { is_ok result ≡ true → string_bytes text.new ≡ string_bytes text.old ++ records_text records.now }
+fn write_records(text: &mut String, records: &[Record]) -> Result<(), AllocError>
+    ensures { OnOk result (string_bytes text.new ≡ string_bytes text.old ++ flat_map record_text records.now) }
 {
-    for written in records {
-        let printed = record_line(heap, written)?;
-        text.push_str(printed.as_str())?;
+    for record in records {
+        write!(text, "{}", RecordLine(record))?;
     }
     Ok(())
 }
 
-fn granted_lines(
-    heap: Global,
-    number: usize,
-    letter: char,
-    granted: Granted,
-    sheet: &[Record],
-) -> Result<String, AllocError>
-    ensures { IfOk result (λ t. string_bytes t ≡ line_text number letter (Ok granted) sheet.now) }
-{
-    let mut text = buffer(heap, number, letter, 0, granted.value)?;
-    let count = granted.records.min(sheet.len());
-    add_records(heap, &mut text, &sheet[0..count])?;
-    Ok(text)
-}
-
-// What the line of this number prints: its letter, refusal and value, and the records that its step wrote on the sheet.
-pub(crate) fn lines(
-    heap: Global,
+// Adds what the line of this number prints: its letter, refusal and value, and the records that its step wrote on the sheet.
+pub(crate) fn write_line(
+    text: &mut String,
     number: usize,
     letter: char,
     answer: Result<Granted, Refusal>,
     sheet: &[Record],
-) -> Result<String, AllocError>
-    ensures { IfOk result (λ t. string_bytes t ≡ line_text number letter answer sheet.now) }
+) -> Result<(), AllocError>
+    ensures { OnOk result (string_bytes text.new ≡ string_bytes text.old ++ line_text number letter answer sheet.now) }
 {
-    match answer {
-        Ok(granted) => granted_lines(heap, number, letter, granted, sheet),
-        Err(refusal) => buffer(heap, number, letter, u8::from(refusal), 0),
-    }
+    let (refusal, granted) = match answer {
+        Ok(granted) => (0, granted),
+        Err(refusal) => (u8::from(refusal), Granted::default()),
+    };
+    let answer = AnswerLine {
+        number,
+        letter,
+        refusal,
+        value: granted.value,
+    };
+    write!(text, "{answer}")?;
+    write_records(text, &sheet[..granted.records.min(sheet.len())])
 }

@@ -1,33 +1,45 @@
-// A script's calls, made on one job. What is printed is compared with stored outputs.
-ghost use Rattle.std.specs.Prelude.{◌≡◌, [], length, is_ok, IfOk, if◌then◌else◌, Ok, Err, string_bytes, nat_le};
+// A script's calls, made on one job.
+ghost use Rattle.std.specs.Prelude.{◌≡◌, ◌^◌, is_ok, IfOk, if◌then◌else◌, Ok, Err, string_bytes, nat_le, nat_lt, MatchResult};
+ghost use Rattle.std.specs.Int.{from_bool};
+ghost use Rattle.hosts.specs.declared.children.End.TheVariants.{Exited};
+ghost use Rattle.hosts.specs.declared.children.Life.TheVariants as Life;
 ghost use Rattle.supervisor.specs.declared.errors.Refusal.TheVariants.{Unknown};
+ghost use Rattle.supervisor.specs.Job as Spec;
+ghost use Rattle.supervisor.specs.Sends.{control_of, priority_of};
+ghost use Rattle.supervisor.specs.Steps.{job_view};
+ghost use Rattle.rehearsal.specs.Calls.{alone, answered, answering, AsksJob, collected, IsFresh, looked, Makes, Plays, TakesStep, TellsChild};
+ghost use Rattle.rehearsal.specs.Printed.{Performs};
 
-use crate::line::{Line, Send, StepKind};
-use crate::print;
+use crate::line::Line;
+use crate::print::write_line;
 use foreground::absent::AbsentTerminal;
-use host::journal::{Answer, CallKind, Record};
+use host::journal::Record;
 use hosts::simulated::SimulatedHost;
 use std::alloc::{AllocError, Global};
+use supervisor::answers::StepKind;
 use supervisor::errors::Refusal;
 use supervisor::job::Job;
+use supervisor::sends::Send;
 
 const PROGRAM: u8 = 1;
 
 // A step needs 8 places.
 const PLACES: usize = 8;
 
-const NO_RECORD: Record = Record {
-    call: CallKind::Spawn,
-    child: 0,
-    number: 0,
-    answer: Answer::Nothing,
-};
-
 // What a granted line answers, and how many records its step wrote.
-#[derive(Clone, Copy)]
+#[derive(Clone, Copy, Default)]
 pub struct Granted {
     pub value: u32,
     pub records: usize,
+}
+
+// A value alone, without records.
+impl From<u32> for Granted {
+    ghost from_gives = { λ value granted. granted ≡ alone value };
+
+    fn from(value: u32) -> Granted {
+        Granted { value, records: 0 }
+    }
 }
 
 #[derive(Drop)]
@@ -38,35 +50,35 @@ pub struct Rehearsal {
     sheet: [Record; PLACES],
 }
 
-fn value_alone(value: u32) -> Granted
-    ensures { result ≡ record { value = value; records = 0 } }
+// No ticket and no child has a number of more than 32 bits.
+fn known(number: u64) -> Result<u32, Refusal>
+    ensures { result ≡ (if nat_lt number (2 ^ 32) then Ok number else Err Unknown) }
 {
-    Granted { value, records: 0 }
+    u32::try_from(number).map_err(|_| Refusal::Unknown)
 }
 
 // Where nothing living has that number, the child is unknown.
 fn if_living(living: bool) -> Result<Granted, Refusal>
-    ensures { result ≡ (if living then Ok (record { value = 0; records = 0 }) else Err Unknown) }
+    ensures { result ≡ (if living then Ok (alone 0) else Err Unknown) }
 {
-    if living {
-        Ok(value_alone(0))
-    } else {
-        Err(Refusal::Unknown)
-    }
+    living.then_some(Granted::default()).ok_or(Refusal::Unknown)
 }
 
 impl Rehearsal {
     // With options and mask 0.
-    pub(crate) fn new() -> Rehearsal {
-        match Rehearsal::with(0, 0) {
-            Ok(made) => made,
-            Err(_) => unreachable(),
-        }
+    pub(crate) fn new() -> Rehearsal
+        ensures { IsFresh 0 0 result }
+    {
+        let Ok(made) = Rehearsal::with(0, 0) else {
+            unreachable!()
+        };
+        made
     }
 
     // Bits of the mask above 31 name no signal.
     fn with(options: u8, mask: u64) -> Result<Rehearsal, Refusal>
-        ensures { is_ok result ≡ nat_le options 15 }
+        ensures granted { is_ok result ≡ nat_le options 15 }
+        ensures made { MatchResult result (IsFresh options mask) (λ refusal. Spec.make 1 options ≡ Err refusal) }
     {
         let job = Job::new(PROGRAM, options)?;
         let host = SimulatedHost::new((mask & 0xffff_ffff) as u32, job.command().options);
@@ -74,74 +86,70 @@ impl Rehearsal {
             job,
             host,
             terminal: AbsentTerminal::new(),
-            sheet: [NO_RECORD; PLACES],
+            sheet: [Record::BLANK; PLACES],
         })
     }
 
-    fn make(&mut self, options: u64, mask: u64) -> Result<Granted, Refusal> {
-        let Ok(options) = u8::try_from(options) else {
-            return Err(Refusal::Number);
-        };
+    fn make(&mut self, options: u64, mask: u64) -> Result<Granted, Refusal>
+        ensures { Makes options mask self.old result self.new }
+    {
+        let options = u8::try_from(options).map_err(|_| Refusal::Number)?;
         *self = Rehearsal::with(options, mask)?;
-        Ok(value_alone(0))
+        Ok(Granted::default())
     }
 
-    fn send(&mut self, send: Send) -> Result<Granted, Refusal> {
-        let ticket = match send {
-            Send::Start => self.job.start()?,
-            Send::Stop => self.job.stop()?,
-            Send::ToWait => self.job.to_wait()?,
-        };
-        Ok(value_alone(ticket))
+    fn send(&mut self, send: Send) -> Result<Granted, Refusal>
+        ensures { AsksJob (answering (λ ticket. ticket) (Spec.send (priority_of send) (control_of send) (job_view self.old.job))) self.old result self.new }
+    {
+        Ok(self.job.send(send)?.into())
     }
 
-    fn step(&mut self, kind: StepKind, time: u64) -> Result<Granted, Refusal> {
-        let stepped = match kind {
-            StepKind::Child => self
-                .job
-                .child_step(&mut self.host, &mut self.terminal, &mut self.sheet, time)?,
-            StepKind::Control => self
-                .job
-                .control_step(&mut self.host, &mut self.terminal, &mut self.sheet, time)?,
-        };
+    fn step(&mut self, kind: StepKind, time: u64) -> Result<Granted, Refusal>
+        ensures { TakesStep kind time self.old result self.new }
+    {
+        let stepped = self.job.step(
+            kind,
+            &mut self.host,
+            &mut self.terminal,
+            &mut self.sheet,
+            time,
+        )?;
         Ok(Granted {
             value: u32::from(u8::from(stepped.progress)),
             records: stepped.records,
         })
     }
 
-    fn look(&self, ticket: u64) -> Result<Granted, Refusal> {
-        let Ok(ticket) = u32::try_from(ticket) else {
-            return Err(Refusal::Unknown);
-        };
-        let done = self.job.look(ticket)?;
-        Ok(value_alone(u32::from(done)))
+    fn look(&self, ticket: u64) -> Result<Granted, Refusal>
+        ensures { result ≡ answered from_bool (looked ticket (job_view self.now.job)) }
+    {
+        let done = self.job.look(known(ticket)?)?;
+        Ok(u32::from(done).into())
     }
 
-    fn collect(&mut self, ticket: u64) -> Result<Granted, Refusal> {
-        let Ok(ticket) = u32::try_from(ticket) else {
-            return Err(Refusal::Unknown);
-        };
-        self.job.collect(ticket)?;
-        Ok(value_alone(0))
+    fn collect(&mut self, ticket: u64) -> Result<Granted, Refusal>
+        ensures { AsksJob (answering (λ _. 0) (collected ticket (job_view self.old.job))) self.old result self.new }
+    {
+        self.job.collect(known(ticket)?)?;
+        Ok(Granted::default())
     }
 
-    fn exit(&mut self, child: u64, code: u8) -> Result<Granted, Refusal> {
-        match u32::try_from(child) {
-            Ok(child) => if_living(self.host.exit(child, code)),
-            Err(_) => Err(Refusal::Unknown),
-        }
+    fn exit(&mut self, child: u64, code: u8) -> Result<Granted, Refusal>
+        ensures { TellsChild child (Life.Ended (Exited code)) self.old result self.new }
+    {
+        if_living(self.host.exit(known(child)?, code))
     }
 
-    fn stop(&mut self, child: u64) -> Result<Granted, Refusal> {
-        match u32::try_from(child) {
-            Ok(child) => if_living(self.host.stop(child)),
-            Err(_) => Err(Refusal::Unknown),
-        }
+    fn stop(&mut self, child: u64) -> Result<Granted, Refusal>
+        ensures { TellsChild child Life.Stopped self.old result self.new }
+    {
+        if_living(self.host.stop(known(child)?))
     }
 
     // Makes the call of one line.
-    fn call(&mut self, line: Line) -> Result<Granted, Refusal> {
+    fn call(&mut self, line: Line) -> Result<Granted, Refusal>
+        ensures { Plays line self.old result self.new }
+    {
         match line {
             Line::Make { options, mask } => self.make(options, mask),
             Line::Send(send) => self.send(send),
@@ -155,13 +163,12 @@ impl Rehearsal {
 
     // Makes the calls of the lines, in order, and gives the text of their answers.
     pub(crate) fn perform(&mut self, heap: Global, lines: &[Line]) -> Result<String, AllocError>
-        ensures { length lines.now ≡ 0 → IfOk result (λ text. string_bytes text ≡ []) }
+        ensures { IfOk result (λ text. Performs 1 lines.now self.old (string_bytes text)) }
     {
         let mut text = String::new(heap);
         for (i, line) in lines.iter().enumerate() {
             let answer = self.call(*line);
-            let printed = print::lines(heap, i + 1, line.letter(), answer, &self.sheet)?;
-            text.push_str(printed.as_str())?;
+            write_line(&mut text, i + 1, line.letter(), answer, &self.sheet)?;
         }
         Ok(text)
     }

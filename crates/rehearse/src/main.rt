@@ -6,14 +6,10 @@ use std::io::Read;
 // One byte more than a script may have: enough to know that it is too long.
 const ENOUGH: u64 = 32769;
 
-fn run(rt: &HostRuntime) -> anyhow::Result<()> {
+fn main(rt: HostRuntime) -> anyhow::Result<()> {
     let mut script = Vec::new(rt.alloc());
     rt.stdin().take(ENOUGH).read_to_end(&mut script)?;
     let text = rehearsal::rehearse(rt.alloc(), &script)?;
     print!(rt; "{text}")?;
     Ok(())
-}
-
-fn main(rt: HostRuntime) -> anyhow::Result<()> {
-    run(&rt)
 }

@@ -1,10 +1,13 @@
-use Rattle.std.proofs.Common.{◌≡◌, ◌+◌, ◌≤◌, [], length, vec_items}
-use Rattle.rehearsal.specs.Script.{lines_from}
-use Rattle.rehearsal.proofs.Reading.{after_lines}
+-- What was read, before what is left, is the script.
+use Rattle.std.proofs.Common.{◌≡◌, ◌+◌}
+use Rattle.std.specs.Iterator.Adapters.{enumerate_count, enumerate_source}
+use Rattle.std.specs.Slice.Iter.{split_inclusive_rest}
+use Rattle.rehearsal.proofs.Reading.{after_lines, said}
 use Rattle.rehearsal.proofs.script.read.Given as goal
 
-abbrev pub invariant-loop-left : goal.invariant-loop-left
-invariant-loop-left l = (l.number + length l.left ≤ 32769) × (after_lines (vec_items l.lines) (lines_from l.number [] l.left) ≡ lines_from 1 [] l.script)
-
-abbrev pub decreases-loop-left : goal.decreases-loop-left
-decreases-loop-left l = length l.left
+abbrev pub invariant-loop-i : goal.invariant-loop-i
+invariant-loop-i l = record {
+  can_next : (goal.iterator-loop-i).can_next l.i-iterator;
+  is_finite : (goal.iterator-loop-i).is_finite l.i-iterator;
+  read : after_lines l.lines.items (said (enumerate_count l.i-iterator + 1) (split_inclusive_rest (enumerate_source l.i-iterator))) ≡ said 1 l.script;
+}
