@@ -11,17 +11,13 @@ use supervisor::errors::Refusal;
 use supervisor::job::Job;
 use supervisor::sends::Send;
 
-fn fresh() -> Result<Job, Fail> {
-    Job::new(1, 0).map_err(|_| Fail::new("no job"))
-}
-
 fn at(kind: StepKind, time: u64) -> Call {
     Call::Step { kind, time }
 }
 
 #[test]
 fn a_run_answers_each_call_and_counts(rt: HostRuntime) -> Result<(), Fail> {
-    let mut job = fresh()?;
+    let mut job = Job::new(1, 0)?;
     let mut host = SimulatedHost::new(0, SpawnOptions::default());
     let mut terminal = AbsentTerminal::new();
     let mut sheet = [Record::BLANK; 8];
@@ -70,7 +66,7 @@ fn a_run_answers_each_call_and_counts(rt: HostRuntime) -> Result<(), Fail> {
 
 #[test]
 fn too_few_answers_refuse_the_run(rt: HostRuntime) -> Result<(), Fail> {
-    let mut job = fresh()?;
+    let mut job = Job::new(1, 0)?;
     let mut host = SimulatedHost::new(0, SpawnOptions::default());
     let mut terminal = AbsentTerminal::new();
     let mut sheet = [Record::BLANK; 8];
@@ -91,7 +87,7 @@ fn too_few_answers_refuse_the_run(rt: HostRuntime) -> Result<(), Fail> {
 
 #[test]
 fn a_short_sheet_refuses_each_step(rt: HostRuntime) -> Result<(), Fail> {
-    let mut job = fresh()?;
+    let mut job = Job::new(1, 0)?;
     let mut host = SimulatedHost::new(0, SpawnOptions::default());
     let mut terminal = AbsentTerminal::new();
     let mut sheet = [Record::BLANK; 7];

@@ -39,7 +39,7 @@ fn stepped(answer: Result<Stepped, Refusal>, sheet: &[Record]) -> Done
     }
 }
 
-// Makes one call.
+// Makes one call. What it is lent comes one by one, as a step takes it.
 fn make<H: Host, T: Terminal>(
     job: &mut Job,
     host: &mut H,
@@ -76,6 +76,7 @@ pub fn drive<H: Host, T: Terminal>(
     }
     let mut tried = 0;
     let mut ordered = 0;
+    // By index: of a slice whose elements `iter_mut` has lent, a proof knows only the length.
     for (i, call) in calls.iter().enumerate() {
         let done = make(job, host, terminal, sheet, *call);
         answers[i] = done.answer;

@@ -24,7 +24,7 @@ pub enum CallKind {
     Release = 13,
 }
 
-// The number that a call is written with.
+// The number that a call is written with. Each enum that has numbers has such an impl: `as` casts no type parameter.
 impl From<CallKind> for u8 {
     ghost from_gives = { λ call number. number ≡ call_number call };
 
@@ -61,7 +61,7 @@ impl From<Answer> for i64 {
 }
 
 // A call: the child that it names (0 for none), its number (spawn's way, the signal, the hook or routine, the code told,
-// the group acquired, else 0) and its answer.
+// the group acquired, else 0) and its answer. They are the numbers of the format, and so no Options.
 #[derive(Clone, Copy, Debug, PartialEq, Eq)]
 pub struct Record {
     pub call: CallKind,

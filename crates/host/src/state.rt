@@ -25,6 +25,7 @@ pub enum CommandState {
     },
 }
 
+// The questions are three, with the names that they have in the Rust.
 impl CommandState {
     pub fn is_pending(&self) -> bool
         ensures { result ≡ State.is_pending self.now }

@@ -6,7 +6,7 @@ use crate::slots;
 use crate::slots::Ring;
 use std::alloc::AllocError;
 
-// At most N items, first in, first out.
+// At most N items, first in, first out. They lie in an array, since the memory of a job is fixed.
 // It has no `impl Model`: that would forget the slots, so `self.new ≡ self.old` of what holds a queue would say less.
 #[derive(Copy)]
 pub struct Queue<T, const N: usize> {

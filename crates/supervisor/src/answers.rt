@@ -4,7 +4,8 @@ ghost use Rattle.supervisor.specs.Answers.{poll_progress, progress_number};
 
 use task::task::PollOutcome;
 
-// A control step carries out one control, a child step polls the child.
+// A control step carries out one control, a child step polls the child. Which one is made is data, and no closure: lists of calls
+// and scripts name it.
 #[derive(Clone, Copy, Debug, PartialEq, Eq)]
 pub enum StepKind {
     Control,
@@ -19,7 +20,7 @@ pub enum Progress {
     Closed = 2,
 }
 
-// The number that it is written with.
+// The number that it is written with; `as` casts no type parameter, so each enum has its own impl.
 impl From<Progress> for u8 {
     ghost from_gives = { λ progress number. number ≡ progress_number progress };
 
@@ -44,7 +45,7 @@ impl From<PollOutcome> for Progress {
 #[derive(Clone, Copy, Debug, PartialEq, Eq)]
 pub struct Stepped {
     pub progress: Progress,
-    // How many records it wrote, from the first place of the sheet on.
+    // How many records it wrote, from the first place of the sheet on: a slice of them would keep the sheet lent.
     pub records: usize,
     // Whether it took a control that orders a start from a queue.
     pub ordered: bool,

@@ -23,7 +23,7 @@ pub enum Refusal {
     Line = 13,
 }
 
-// The number that a refusal is written with.
+// The number that a refusal is written with; `as` casts no type parameter, so each enum has its own impl.
 impl From<Refusal> for u8 {
     ghost from_gives = { λ refusal number. number ≡ refusal_number refusal };
 

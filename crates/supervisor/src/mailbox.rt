@@ -11,6 +11,7 @@ use task::messages::{Control, ControlMessage};
 use task::task::{Outcome, PollOutcome};
 use tickets::flag::Tickets;
 
+// The queues differ in type, by their sizes, so each is an arm of its own.
 impl Queues {
     // Whether a queue can take one message more.
     fn has_room(&self, priority: Priority) -> bool

@@ -173,10 +173,6 @@ fn refusal<X: Drop>(answer: Result<X, Refusal>) -> Option<u8> {
     answer.err().map(u8::from)
 }
 
-fn fresh() -> Result<Job, Fail> {
-    Job::new(1, 0).map_err(|_| Fail::new("no job"))
-}
-
 #[test]
 fn a_job_is_made_of_fitting_numbers(rt: HostRuntime) {
     assert_eq!(rt; refusal(Job::new(0, 0)), Some(6));
@@ -186,7 +182,7 @@ fn a_job_is_made_of_fitting_numbers(rt: HostRuntime) {
 
 #[test]
 fn a_full_queue_takes_no_more(rt: HostRuntime) -> Result<(), Fail> {
-    let mut job = fresh()?;
+    let mut job = Job::new(1, 0)?;
     for i in 0..128u32 {
         assert_eq!(rt; job.start(), Ok(i + 1));
     }
@@ -197,7 +193,7 @@ fn a_full_queue_takes_no_more(rt: HostRuntime) -> Result<(), Fail> {
 
 #[test]
 fn a_full_table_gives_no_more_tickets(rt: HostRuntime) -> Result<(), Fail> {
-    let mut job = fresh()?;
+    let mut job = Job::new(1, 0)?;
     for i in 0..128u64 {
         assert!(rt; job.start().is_ok());
         assert!(rt; step(&mut job, i).is_ok());
@@ -214,7 +210,7 @@ fn a_full_table_gives_no_more_tickets(rt: HostRuntime) -> Result<(), Fail> {
 
 #[test]
 fn a_sheet_of_seven_is_too_short(rt: HostRuntime) -> Result<(), Fail> {
-    let mut job = fresh()?;
+    let mut job = Job::new(1, 0)?;
     let mut host = NoRoom {
         served: 0,
         spawns: 0,
@@ -235,7 +231,7 @@ fn a_sheet_of_seven_is_too_short(rt: HostRuntime) -> Result<(), Fail> {
 
 #[test]
 fn the_clock_does_not_go_back(rt: HostRuntime) -> Result<(), Fail> {
-    let mut job = fresh()?;
+    let mut job = Job::new(1, 0)?;
     assert!(rt; step(&mut job, 5).is_ok());
     assert_eq!(rt; refusal(step(&mut job, 4)), Some(3));
     assert!(rt; step(&mut job, 5).is_ok());
@@ -246,7 +242,7 @@ fn the_clock_does_not_go_back(rt: HostRuntime) -> Result<(), Fail> {
 
 #[test]
 fn a_ticket_is_done_once_it_is_raised_and_collected_once(rt: HostRuntime) -> Result<(), Fail> {
-    let mut job = fresh()?;
+    let mut job = Job::new(1, 0)?;
     assert_eq!(rt; refusal(job.look(1)), Some(11));
     assert_eq!(rt; job.start(), Ok(1));
     assert_eq!(rt; job.look(1), Ok(false));
@@ -263,7 +259,7 @@ fn a_ticket_is_done_once_it_is_raised_and_collected_once(rt: HostRuntime) -> Res
 
 #[test]
 fn a_spawn_fault_is_told_to_a_handler(rt: HostRuntime) -> Result<(), Fail> {
-    let mut job = fresh()?;
+    let mut job = Job::new(1, 0)?;
     assert!(rt; job.start().is_ok());
     assert_eq!(rt; step(&mut job, 0), Ok(1));
     job.set_handler(7);

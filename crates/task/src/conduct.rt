@@ -52,6 +52,9 @@ impl Work for Polling {
     }
 }
 
+// Task, host, terminal and sheet come one by one here and in the two below: a struct of them would be made by each caller, and
+// each contract would have to say that the same ones are lent after the call.
+
 // Does the work; what it ends with, and how many records were written. None where the sheet has fewer than 8 places.
 fn conduct<W: Work + Drop, H: Host, T: Terminal>(
     task: &mut Task,

@@ -9,7 +9,7 @@ pub struct Step<'k, 'h, 't, 's, H, T> {
     pub terminal: &'t mut T,
     // Calls are recorded on it.
     pub sheet: &'s mut [Record],
-    // The places of the sheet that are written.
+    // The places of the sheet that are written: a count, and no iterator over the rest, since it is answered in the end.
     pub used: usize,
     pub time: u64,
 }

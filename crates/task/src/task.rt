@@ -3,7 +3,8 @@ use host::command::Command;
 use host::state::CommandState;
 use ring::queue::Queue;
 
-// The numbers that are set and cleared: of the error handler, of the spawn hook, and of the way of spawning (0 is the default).
+// The numbers that are set and cleared: of the error handler, of the spawn hook, and of the way of spawning. The way is no Option:
+// hosts are given 0 for the default, and the journal writes it.
 #[derive(Clone, Copy)]
 pub struct Settings {
     pub handler: Option<u8>,

@@ -105,7 +105,8 @@ fn free_places(entries: &[Entry]) -> usize
     entries.iter().filter(|e| e.is_free()).count()
 }
 
-// 256 places, and the last serial given out. Serials count from 1 and are never given twice.
+// 256 places, and the last serial given out. Serials count from 1 and are never given twice. The places are an array that is
+// searched, and no map, since the memory of a job is fixed.
 #[derive(Clone, Copy)]
 pub struct Tickets {
     entries: [Entry; 256],

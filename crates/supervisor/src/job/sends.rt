@@ -78,7 +78,8 @@ impl Job {
         self.task.state
     }
 
-    // Any of the sends. The answer is a ticket, which is raised when that is done; a closed job answers ticket 0.
+    // Any of the sends. The answer is a ticket, which is raised when that is done. A closed job answers ticket 0, as the Rust does:
+    // it can be looked at and collected as any other, so it is no Option.
     pub fn send(&mut self, send: Send) -> Result<u32, Refusal>
         ensures { Answers (Spec.send (priority_of send) (control_of send)) self.old result self.new }
     {
@@ -89,6 +90,8 @@ impl Job {
         self.mailbox.may_send(priority)?;
         Ok(self.mailbox.admit(priority, send.control(), true))
     }
+
+    // The sends have the names of the Rust, so each is a method of its own.
 
     // Starts the command if it is not running.
     pub fn start(&mut self) -> Result<u32, Refusal>

@@ -33,6 +33,9 @@ impl Job {
         Ok(())
     }
 
+    // Host, terminal and sheet come one by one: a struct of them would be made by each caller, and each contract would have to say
+    // that the same ones are lent after the step.
+
     // Takes the next control and carries it out. The calls that are made are recorded on the sheet, from its first place on.
     pub fn control_step<H: Host, T: Terminal>(
         &mut self,
