@@ -28,6 +28,7 @@ pub trait Host {
     fn is_full(&self) -> bool
         ensures { result ≡ nat_le most (length (book self.now).roster) };
 
+    // The options may be a hook's, and so they come beside the program and not as a `Command`.
     fn spawn(
         &mut self,
         program: u8,
@@ -55,6 +56,7 @@ pub trait Host {
     fn let_go(&mut self, child: u32)
         ensures { did self.old (Calls.let_go child) tt self.new };
 
+    // A hook and a routine are told the state and the previous one, as two arguments: a struct for these two were no plainer.
     fn hook(
         &mut self,
         number: u8,

@@ -48,6 +48,7 @@ impl SimulatedHost {
         ensures after { view self.new ≡ after (view self.old) (Calls.signal child signal) }
     {
         self.count();
+        // Not `ok_or(..)?`: with it, the checker makes a proof about borrows that it then refuses.
         let Some(life) = self.roster.life(child) else {
             return Err(Fault::NO_CHILD);
         };

@@ -26,7 +26,7 @@ const PROGRAM: u8 = 1;
 // A step needs 8 places.
 const PLACES: usize = 8;
 
-// What a granted line answers, and how many records its step wrote.
+// What a granted line answers, and how many records its step wrote: their number, as a step answers it.
 #[derive(Clone, Copy, Default)]
 pub struct Granted {
     pub value: u32,

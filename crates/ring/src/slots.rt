@@ -2,7 +2,7 @@
 ghost use Rattle.std.specs.Prelude.{◌≡◌, ◌+◌, ◌%◌, ◌<◌, ◌≤◌, [], ◌∷◌, ◌++◌, length, if◌then◌else◌, slice_set, IsTrue};
 ghost use Rattle.ring.specs.Ring.{fits, has_item, has_room, items, newer, oldest, one_less, one_more, place};
 
-// The slot of the oldest item, and how many items there are.
+// The slot of the oldest item, and how many items there are. The marks lie beside the slots, since put and take are for any slice.
 #[derive(Clone, Copy, Debug, PartialEq, Eq)]
 pub struct Ring {
     pub head: usize,
