@@ -39,7 +39,7 @@ fn stepped(answer: Result<Stepped, Refusal>, sheet: &[Record]) -> Done
     }
 }
 
-// Makes one call. What it is lent comes one by one, as a step takes it.
+// Makes one call, which is data of the caller's, and so no closure. What it is lent comes one by one, as a step takes it.
 fn make<H: Host, T: Terminal>(
     job: &mut Job,
     host: &mut H,

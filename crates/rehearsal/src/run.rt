@@ -146,7 +146,7 @@ impl Rehearsal {
         if_living(self.host.stop(known(child)?))
     }
 
-    // Makes the call of one line.
+    // Makes the call of one line, which was read from a text, and so is no closure.
     fn call(&mut self, line: Line) -> Result<Granted, Refusal>
         ensures { Plays line self.old result self.new }
     {

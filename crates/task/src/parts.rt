@@ -170,7 +170,7 @@ impl<H: Host, T: Terminal> Step<'_, '_, '_, '_, H, T> {
         self.stop_child()
     }
 
-    // Carries a control out.
+    // Carries a control out. It is a message from a queue, and so no closure.
     pub(crate) fn carry_out(&mut self, control: Control) -> Outcome
         requires { Room 7 self.old }
         ensures { Performs H.Host T.Terminal 7 (Tree.control control self.old.time (task_of self.old)) self.old (task_of self.new, result) self.new }
