@@ -11,6 +11,18 @@ use supervisor::errors::Refusal;
 use supervisor::job::Job;
 use supervisor::sends::Send;
 
+// Drives a job on a simulated host that ignores no signal, and the absent terminal.
+fn run(
+    job: &mut Job,
+    calls: &[Call],
+    sheet: &mut [Record],
+    answers: &mut [Result<u32, Refusal>],
+) -> Result<Tally, Refusal> {
+    let mut host = SimulatedHost::new(0, SpawnOptions::default());
+    let mut terminal = AbsentTerminal::new();
+    drive(job, &mut host, &mut terminal, calls, sheet, answers)
+}
+
 fn at(kind: StepKind, time: u64) -> Call {
     Call::Step { kind, time }
 }
@@ -18,8 +30,6 @@ fn at(kind: StepKind, time: u64) -> Call {
 #[test]
 fn a_run_answers_each_call_and_counts(rt: HostRuntime) -> Result<(), Fail> {
     let mut job = Job::new(1, 0)?;
-    let mut host = SimulatedHost::new(0, SpawnOptions::default());
-    let mut terminal = AbsentTerminal::new();
     let mut sheet = [Record::BLANK; 8];
     let mut answers = [Err(Refusal::Line); 10];
     let calls = [
@@ -33,14 +43,7 @@ fn a_run_answers_each_call_and_counts(rt: HostRuntime) -> Result<(), Fail> {
         at(StepKind::Control, 13),
         Call::Look { ticket: 3 },
     ];
-    let tally = drive(
-        &mut job,
-        &mut host,
-        &mut terminal,
-        &calls,
-        &mut sheet,
-        &mut answers,
-    );
+    let tally = run(&mut job, &calls, &mut sheet, &mut answers);
     let counts = Tally {
         tried: 1,
         ordered: 2,
@@ -67,14 +70,10 @@ fn a_run_answers_each_call_and_counts(rt: HostRuntime) -> Result<(), Fail> {
 #[test]
 fn too_few_answers_refuse_the_run(rt: HostRuntime) -> Result<(), Fail> {
     let mut job = Job::new(1, 0)?;
-    let mut host = SimulatedHost::new(0, SpawnOptions::default());
-    let mut terminal = AbsentTerminal::new();
     let mut sheet = [Record::BLANK; 8];
     let mut answers = [Err(Refusal::Line); 1];
-    let tally = drive(
+    let tally = run(
         &mut job,
-        &mut host,
-        &mut terminal,
         &[Call::Send(Send::Start), Call::Send(Send::Start)],
         &mut sheet,
         &mut answers,
@@ -88,8 +87,6 @@ fn too_few_answers_refuse_the_run(rt: HostRuntime) -> Result<(), Fail> {
 #[test]
 fn a_short_sheet_refuses_each_step(rt: HostRuntime) -> Result<(), Fail> {
     let mut job = Job::new(1, 0)?;
-    let mut host = SimulatedHost::new(0, SpawnOptions::default());
-    let mut terminal = AbsentTerminal::new();
     let mut sheet = [Record::BLANK; 7];
     let mut answers = [Err(Refusal::Line); 3];
     let calls = [
@@ -97,14 +94,7 @@ fn a_short_sheet_refuses_each_step(rt: HostRuntime) -> Result<(), Fail> {
         at(StepKind::Control, 5),
         at(StepKind::Child, 5),
     ];
-    let tally = drive(
-        &mut job,
-        &mut host,
-        &mut terminal,
-        &calls,
-        &mut sheet,
-        &mut answers,
-    );
+    let tally = run(&mut job, &calls, &mut sheet, &mut answers);
     let counts = Tally {
         tried: 0,
         ordered: 0,
