@@ -1,5 +1,6 @@
 -- The books of a host and of a terminal: how a call and its answer move them, and which answers fit.
 use Rattle.std.specs.Prelude.{◌≡◌, ℕ, ◌+◌, ◌%◌, ◌^◌, ◌<◌, ◌≤◌, Bool, true, false, if◌then◌else◌, ◌||◌, List, [], ◌∷◌, ◌++◌, length, Some, None, Ok, Err, ◌==◌, ⊤}
+use Rattle.std.specs.List.{fold}
 use Rattle.host.specs.declared.fault.Fault.{Fault}
 use Rattle.host.specs.declared.state.ProcessEnd.{ProcessEnd}
 use Rattle.host.specs.declared.state.ProcessEnd.TheVariants.{Exited, Signalled, Continued}
@@ -124,12 +125,10 @@ terminal_moved b (to_host c) a = b
 terminal_moved b (to_terminal c) a = terminal_after b c a
 
 abbrev pub host_along : HostBook → List Event → HostBook
-host_along b [] = b
-host_along b (e ∷ es) = host_along (host_moved b e.0 e.1) es
+host_along b es = fold (λ book e. host_moved book e.0 e.1) b es
 
 abbrev pub terminal_along : TerminalBook → List Event → TerminalBook
-terminal_along b [] = b
-terminal_along b (e ∷ es) = terminal_along (terminal_moved b e.0 e.1) es
+terminal_along b es = fold (λ book e. terminal_moved book e.0 e.1) b es
 
 -- the spawns among the calls of a trace
 

@@ -5,7 +5,7 @@ use ring::queue::Queue;
 
 // The numbers that are set and cleared: of the error handler, of the spawn hook, and of the way of spawning. The way is no Option:
 // hosts are given 0 for the default, and the journal writes it.
-#[derive(Clone, Copy)]
+#[derive(Clone, Copy, Default)]
 pub struct Settings {
     pub handler: Option<u8>,
     pub hook: Option<u8>,

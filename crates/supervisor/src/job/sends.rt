@@ -28,11 +28,7 @@ impl Job {
         let options = SpawnOptions::try_from(options)?;
         let task = Task {
             command: Command { program, options },
-            settings: Settings {
-                handler: None,
-                hook: None,
-                way: 0,
-            },
+            settings: Settings::default(),
             state: CommandState::Pending,
             previous: None,
             foreground: Foreground {
