@@ -134,10 +134,11 @@ impl Tickets {
         }
     }
 
-    // Whether `n` more tickets can be given: whether there are places and serials for them.
+    // Whether `n` more tickets can be given: whether there are places and serials for them. A table has 256 places.
     #[tactic(auto, using(crate::proofs::Tables::free_places_counted))]
     pub fn fits(&self, n: usize) -> bool
-        ensures { result ≡ ticket_room n self.now.issued self.now.table }
+        ensures answer { result ≡ ticket_room n self.now.issued self.now.table }
+        ensures full { length self.now.table ≡ 256 }
     {
         n <= free_places(&self.entries)
             && u32::try_from(n).is_ok_and(|n| self.issued.checked_add(n).is_some())
