@@ -24,7 +24,7 @@ pub struct Done {
     pub ordered: usize,
 }
 
-// A call that asks nothing outside does no more than answer.
+// What is done by a call that makes no step, or by a step that is refused: its answer is all.
 impl From<Result<u32, Refusal>> for Done {
     ghost from_gives = { λ answer it. it ≡ done answer 0 0 };
 

@@ -76,7 +76,7 @@ pub fn drive<H: Host, T: Terminal>(
     }
     let mut tried = 0;
     let mut ordered = 0;
-    // By index: of a slice whose elements `iter_mut` has lent, a proof knows only the length.
+    // By index: of a slice whose elements were lent in a `zip`, a proof knows only the length.
     for (i, call) in calls.iter().enumerate() {
         let done = make(job, host, terminal, sheet, *call);
         answers[i] = done.answer;

@@ -1,2 +1,3 @@
+-- The definitions of the absent terminal.
 pub mod Absent
 pub mod Book

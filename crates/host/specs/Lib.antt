@@ -1,3 +1,4 @@
+-- The definitions of hosts and terminals.
 pub mod Books
 pub mod Calls
 pub mod Command

@@ -20,7 +20,7 @@ pub trait Host {
     // Holds of the host before a call, the call with its arguments, its answer, and the host after it.
     ghost did: { Self → (c : HostCall) → HostReply c → Self → Type 0 };
 
-    // The constant, as contracts can name it.
+    // `MOST` as a function, since a clause names a trait's functions and not its constants.
     fn capacity() -> usize
         ensures { result ≡ most };
 

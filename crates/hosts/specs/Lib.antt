@@ -1,3 +1,4 @@
+-- The definitions of the simulated host.
 pub mod Children
 pub mod Signals
 pub mod Roster

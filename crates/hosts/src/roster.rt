@@ -58,7 +58,7 @@ impl Roster {
         Some(self.children[at].life)
     }
 
-    // Adds a child with the next number, that goes on; none where there is no room or no number left.
+    // Adds a going child with the next number; none where there is no room or no number left.
     pub(crate) fn add(&mut self) -> Option<u32>
         ensures answer { result ≡ (if has_room self.old.next (items self.old) then Some self.old.next else None) }
         ensures after { held self.new ≡ (if has_room self.old.next (items self.old) then (items self.old ++ child self.old.next Life.Going ∷ [], self.old.next + 1) else held self.old) }

@@ -14,7 +14,7 @@ use host::fault::Fault;
 use host::process::Host;
 use host::state::{CommandState, ProcessEnd};
 
-// Bit s of the mask says that the children ignore signal s; the options are the command's.
+// Bit s of the mask says that the children ignore signal s, if it can be ignored; the options are the command's.
 #[derive(Drop)]
 pub struct SimulatedHost {
     roster: Roster,

@@ -23,9 +23,6 @@ use supervisor::sends::Send;
 
 const PROGRAM: u8 = 1;
 
-// A step needs 8 places.
-const PLACES: usize = 8;
-
 // What a granted line answers, and how many records its step wrote: their number, as a step answers it.
 #[derive(Clone, Copy, Default)]
 pub struct Granted {
@@ -47,7 +44,7 @@ pub struct Rehearsal {
     job: Job,
     host: SimulatedHost,
     terminal: AbsentTerminal,
-    sheet: [Record; PLACES],
+    sheet: [Record; LEAST_PLACES],
 }
 
 // No ticket and no child has a number of more than 32 bits.
@@ -86,7 +83,7 @@ impl Rehearsal {
             job,
             host,
             terminal: AbsentTerminal::new(),
-            sheet: [Record::BLANK; PLACES],
+            sheet: [Record::BLANK; LEAST_PLACES],
         })
     }
 

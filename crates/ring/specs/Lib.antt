@@ -1,2 +1,3 @@
+-- The definitions of rings and queues.
 pub mod Queue
 pub mod Ring

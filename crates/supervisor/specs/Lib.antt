@@ -1,3 +1,4 @@
+-- The definitions of the job.
 pub mod Answers
 pub mod Errors
 pub mod Job

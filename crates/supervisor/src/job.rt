@@ -1,4 +1,4 @@
-// A job, with what holds of each.
+// A job, and what holds of every job.
 ghost use Rattle.std.specs.Prelude.{◌≡◌, ◌^◌, ◌≤◌, true, false, []};
 ghost use Rattle.task.specs.Task.{Granted};
 ghost use Rattle.supervisor.specs.Sound.{InOrder};

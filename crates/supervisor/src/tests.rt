@@ -122,7 +122,7 @@ impl Host for NoRoom {
     }
 }
 
-// No terminal.
+// No terminal: one of its own, since only these tests would need the crate `foreground`.
 #[derive(Drop)]
 struct NoTerminal {
     served: u64,
@@ -168,15 +168,10 @@ fn step(job: &mut Job, time: u64) -> Result<usize, Refusal> {
     Ok(done.records)
 }
 
-// The number of a refusal; none where the call was not refused.
-fn refusal<X: Drop>(answer: Result<X, Refusal>) -> Option<u8> {
-    answer.err().map(u8::from)
-}
-
 #[test]
 fn a_job_is_made_of_fitting_numbers(rt: HostRuntime) {
-    assert_eq!(rt; refusal(Job::new(0, 0)), Some(6));
-    assert_eq!(rt; refusal(Job::new(1, 16)), Some(6));
+    assert_eq!(rt; Job::new(0, 0).err(), Some(Refusal::Number));
+    assert_eq!(rt; Job::new(1, 16).err(), Some(Refusal::Number));
     assert!(rt; Job::new(255, 15).is_ok());
 }
 
@@ -186,7 +181,7 @@ fn a_full_queue_takes_no_more(rt: HostRuntime) -> Result<(), Fail> {
     for i in 0..128u32 {
         assert_eq!(rt; job.start(), Ok(i + 1));
     }
-    assert_eq!(rt; refusal(job.start()), Some(7));
+    assert_eq!(rt; job.start(), Err(Refusal::Queue));
     assert_eq!(rt; job.to_wait(), Ok(129));
     Ok(())
 }
@@ -202,7 +197,7 @@ fn a_full_table_gives_no_more_tickets(rt: HostRuntime) -> Result<(), Fail> {
         assert!(rt; job.start().is_ok());
     }
     assert_eq!(rt; job.to_wait(), Ok(256));
-    assert_eq!(rt; refusal(job.start()), Some(8));
+    assert_eq!(rt; job.start(), Err(Refusal::Tickets));
     assert!(rt; job.collect(1).is_ok());
     assert_eq!(rt; job.start(), Ok(257));
     Ok(())
@@ -219,8 +214,8 @@ fn a_sheet_of_seven_is_too_short(rt: HostRuntime) -> Result<(), Fail> {
     let mut seven = [Record::BLANK; 7];
     let mut eight = [Record::BLANK; 8];
     assert_eq!(rt;
-        refusal(job.control_step(&mut host, &mut terminal, &mut seven, 0)),
-        Some(2)
+        job.control_step(&mut host, &mut terminal, &mut seven, 0),
+        Err(Refusal::Sheet)
     );
     assert!(rt;
         job.control_step(&mut host, &mut terminal, &mut eight, 0)
@@ -233,9 +228,9 @@ fn a_sheet_of_seven_is_too_short(rt: HostRuntime) -> Result<(), Fail> {
 fn the_clock_does_not_go_back(rt: HostRuntime) -> Result<(), Fail> {
     let mut job = Job::new(1, 0)?;
     assert!(rt; step(&mut job, 5).is_ok());
-    assert_eq!(rt; refusal(step(&mut job, 4)), Some(3));
+    assert_eq!(rt; step(&mut job, 4), Err(Refusal::Clock));
     assert!(rt; step(&mut job, 5).is_ok());
-    assert_eq!(rt; refusal(step(&mut job, (1 << 62) + 1)), Some(3));
+    assert_eq!(rt; step(&mut job, (1 << 62) + 1), Err(Refusal::Clock));
     assert!(rt; step(&mut job, 1 << 62).is_ok());
     Ok(())
 }
@@ -243,15 +238,15 @@ fn the_clock_does_not_go_back(rt: HostRuntime) -> Result<(), Fail> {
 #[test]
 fn a_ticket_is_done_once_it_is_raised_and_collected_once(rt: HostRuntime) -> Result<(), Fail> {
     let mut job = Job::new(1, 0)?;
-    assert_eq!(rt; refusal(job.look(1)), Some(11));
+    assert_eq!(rt; job.look(1), Err(Refusal::Unknown));
     assert_eq!(rt; job.start(), Ok(1));
     assert_eq!(rt; job.look(1), Ok(false));
-    assert_eq!(rt; refusal(job.collect(1)), Some(12));
+    assert_eq!(rt; job.collect(1), Err(Refusal::Waiting));
     assert!(rt; step(&mut job, 0).is_ok());
     assert_eq!(rt; job.look(1), Ok(true));
     assert!(rt; job.collect(1).is_ok());
-    assert_eq!(rt; refusal(job.look(1)), Some(11));
-    assert_eq!(rt; refusal(job.collect(1)), Some(11));
+    assert_eq!(rt; job.look(1), Err(Refusal::Unknown));
+    assert_eq!(rt; job.collect(1), Err(Refusal::Unknown));
     assert_eq!(rt; job.look(0), Ok(true));
     assert!(rt; job.collect(0).is_ok());
     Ok(())

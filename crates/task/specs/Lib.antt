@@ -1,3 +1,4 @@
+-- The definitions of the task of a job.
 pub mod Conducts
 pub mod Messages
 pub mod Performs

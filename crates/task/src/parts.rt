@@ -14,14 +14,14 @@ use host::state::{CommandState, ProcessEnd};
 use host::terminal::Terminal;
 
 impl Task {
-    // The task as a launch begins.
+    // Makes the state Pending, as a launch begins, and keeps the run that was.
     fn reset(&mut self, time: u64)
         ensures { task_view self.new ≡ Tree.reset time (task_view self.old) }
     {
         self.previous = Some(self.state.reset(time));
     }
 
-    // The task once its child was spawned.
+    // Takes a spawned child as the one that runs.
     fn run_child(&mut self, child: u32, time: u64)
         ensures { task_view self.new ≡ Tree.started child time (task_view self.old) }
     {

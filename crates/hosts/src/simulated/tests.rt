@@ -1,7 +1,5 @@
-// The simulated host on examples. Answers are compared by the numbers that a journal writes them with: 1000 and the exit code
-// or 2000 and the signal of an end, minus the code of a fault, else 0.
+// The simulated host on examples.
 use super::*;
-use host::journal::Answer;
 
 const PLAIN: SpawnOptions = SpawnOptions {
     grouped: true,
@@ -17,25 +15,8 @@ fn host_of(mask: u32) -> SimulatedHost {
     host
 }
 
-fn spawned(host: &mut SimulatedHost) -> i64 {
-    let answer = host.spawn(1, PLAIN, 0, 10);
-    i64::from(answer.map_or_else(Answer::Fault, Answer::Child))
-}
-
-fn polled(host: &mut SimulatedHost, child: u32) -> i64 {
-    let end = host
-        .poll(child)
-        .map(|end| end.map_or(Answer::Nothing, Answer::End));
-    i64::from(end.unwrap_or_else(Answer::Fault))
-}
-
-fn waited(host: &mut SimulatedHost, child: u32) -> i64 {
-    i64::from(host.wait(child).map_or_else(Answer::Fault, Answer::End))
-}
-
-fn signalled(host: &mut SimulatedHost, child: u32, signal: u8) -> i64 {
-    let answer = host.signal(child, signal).err();
-    i64::from(answer.map_or(Answer::Nothing, Answer::Fault))
+fn spawned(host: &mut SimulatedHost) -> Result<u32, Fault> {
+    host.spawn(1, PLAIN, 0, 10)
 }
 
 fn is_stopped(host: &SimulatedHost, child: u32) -> bool {
@@ -46,54 +27,54 @@ fn is_stopped(host: &SimulatedHost, child: u32) -> bool {
 fn a_killed_child_is_waited_for_once(rt: HostRuntime) {
     let mut host = host_of(0);
     assert!(rt; host.kill(100).is_ok());
-    assert_eq!(rt; waited(&mut host, 100), 2009);
-    assert_eq!(rt; waited(&mut host, 100), -10);
-    assert!(rt; host.served == 4 && host.spawns == 1);
+    assert_eq!(rt; host.wait(100), Ok(ProcessEnd::Signalled(9)));
+    assert_eq!(rt; host.wait(100), Err(Fault { code: 10 }));
+    assert_eq!(rt; (host.served, host.spawns), (4, 1));
 }
 
 #[test]
 fn a_living_child_is_not_waited_for(rt: HostRuntime) {
     let mut host = host_of(0);
-    assert_eq!(rt; waited(&mut host, 100), -4);
+    assert_eq!(rt; host.wait(100), Err(Fault { code: 4 }));
     assert!(rt; host.stop(100));
-    assert_eq!(rt; waited(&mut host, 100), -4);
+    assert_eq!(rt; host.wait(100), Err(Fault { code: 4 }));
 }
 
 #[test]
 fn three_signals_are_never_ignored(rt: HostRuntime) {
     let mut host = host_of(0xFFFF_FFFF);
-    assert_eq!(rt; signalled(&mut host, 100, 15), 0);
-    assert_eq!(rt; signalled(&mut host, 100, 20), 0);
+    assert_eq!(rt; host.signal(100, 15), Ok(()));
+    assert_eq!(rt; host.signal(100, 20), Ok(()));
     assert!(rt; !is_stopped(&host, 100));
-    assert_eq!(rt; signalled(&mut host, 100, 19), 0);
+    assert_eq!(rt; host.signal(100, 19), Ok(()));
     assert!(rt; is_stopped(&host, 100));
     assert!(rt; host.cont(100).is_ok());
     assert!(rt; !is_stopped(&host, 100));
-    assert_eq!(rt; signalled(&mut host, 100, 9), 0);
-    assert_eq!(rt; polled(&mut host, 100), 2009);
+    assert_eq!(rt; host.signal(100, 9), Ok(()));
+    assert_eq!(rt; host.poll(100), Ok(Some(ProcessEnd::Signalled(9))));
 }
 
 #[test]
 fn a_stopped_child_continues_or_ends(rt: HostRuntime) {
     let mut host = host_of(0);
-    assert_eq!(rt; signalled(&mut host, 100, 20), 0);
+    assert_eq!(rt; host.signal(100, 20), Ok(()));
     assert!(rt; is_stopped(&host, 100));
-    assert_eq!(rt; polled(&mut host, 100), 0);
+    assert_eq!(rt; host.poll(100), Ok(None));
     assert!(rt; host.cont(100).is_ok());
     assert!(rt; !is_stopped(&host, 100));
     assert!(rt; host.stop(100));
-    assert_eq!(rt; signalled(&mut host, 100, 15), 0);
-    assert_eq!(rt; polled(&mut host, 100), 2015);
+    assert_eq!(rt; host.signal(100, 15), Ok(()));
+    assert_eq!(rt; host.poll(100), Ok(Some(ProcessEnd::Signalled(15))));
 }
 
 #[test]
 fn signals_that_fault_or_do_nothing(rt: HostRuntime) {
     let mut host = host_of(0);
-    assert_eq!(rt; signalled(&mut host, 99, 32), -10);
-    assert_eq!(rt; signalled(&mut host, 100, 32), -22);
-    assert_eq!(rt; signalled(&mut host, 100, 0), 0);
-    assert_eq!(rt; signalled(&mut host, 100, 17), 0);
-    assert_eq!(rt; polled(&mut host, 100), 0);
+    assert_eq!(rt; host.signal(99, 32), Err(Fault { code: 10 }));
+    assert_eq!(rt; host.signal(100, 32), Err(Fault { code: 22 }));
+    assert_eq!(rt; host.signal(100, 0), Ok(()));
+    assert_eq!(rt; host.signal(100, 17), Ok(()));
+    assert_eq!(rt; host.poll(100), Ok(None));
 }
 
 #[test]
@@ -104,8 +85,8 @@ fn a_child_exits_once_and_is_reported_once(rt: HostRuntime) {
     assert!(rt; !host.exit(100, 4));
     assert!(rt; !host.stop(100));
     assert!(rt; host.kill(100).is_ok());
-    assert_eq!(rt; polled(&mut host, 100), 1003);
-    assert_eq!(rt; polled(&mut host, 100), -10);
+    assert_eq!(rt; host.poll(100), Ok(Some(ProcessEnd::Exited(3))));
+    assert_eq!(rt; host.poll(100), Err(Fault { code: 10 }));
 }
 
 #[test]
@@ -113,14 +94,14 @@ fn sixteen_children_and_one_more(rt: HostRuntime) {
     let mut host = host_of(0);
     for _ in 1..16 {
         assert!(rt; !host.is_full());
-        assert!(rt; spawned(&mut host) > 100);
+        assert!(rt; spawned(&mut host).is_ok_and(|child| child > 100));
     }
     assert!(rt; host.is_full());
-    assert_eq!(rt; spawned(&mut host), -11);
+    assert_eq!(rt; spawned(&mut host), Err(Fault { code: 11 }));
     host.let_go(107);
     host.let_go(107);
-    assert_eq!(rt; polled(&mut host, 107), -10);
-    assert_eq!(rt; spawned(&mut host), 116);
-    assert_eq!(rt; polled(&mut host, 108), 0);
-    assert!(rt; host.served == 22 && host.spawns == 18);
+    assert_eq!(rt; host.poll(107), Err(Fault { code: 10 }));
+    assert_eq!(rt; spawned(&mut host), Ok(116));
+    assert_eq!(rt; host.poll(108), Ok(None));
+    assert_eq!(rt; (host.served, host.spawns), (22, 18));
 }
