@@ -7,8 +7,7 @@ use Rattle.task.specs.Task.{poll_child}
 use Rattle.task.specs.View.{task_view}
 use Rattle.task.proofs.Grants.{poll_granted}
 use Rattle.task.proofs.Sheets.{then_done}
-use Rattle.supervisor.proofs.Books.{accepted, granted_after}
-use Rattle.supervisor.proofs.Jobs.{in_time}
+use Rattle.supervisor.proofs.Steps.{granted_after, accepted}
 use Rattle.supervisor.proofs.Mailboxes.{after_poll_in}
 use Rattle.supervisor.proofs.job.Job.child_step.Goals as goal
 

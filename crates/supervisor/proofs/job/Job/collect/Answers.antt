@@ -1,6 +1,6 @@
-use Rattle.supervisor.proofs.Jobs.{done-raised}
+use Rattle.std.proofs.Common.{arith}
 use Rattle.supervisor.proofs.Mailboxes.{vacate_in}
 use Rattle.supervisor.proofs.job.Job.collect.Goals as goal
 
 pub invariant_of-self-clause-in_order : goal.invariant_of-self-clause-in_order
-invariant_of-self-clause-in_order c e = rw c.vacate.ensures (vacate_in _ _ (c.args.self.now.in_order e) (done-raised _ _ _ e c.if-not-branch.false c.in_ok-is_done.ensures))
+invariant_of-self-clause-in_order c e = rw c.vacate.ensures (vacate_in _ _ (c.args.self.now.in_order e) (grind arith))

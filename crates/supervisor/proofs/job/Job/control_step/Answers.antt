@@ -1,4 +1,5 @@
-use Rattle.std.proofs.Common.{◌≡◌, [], ◌∷◌, Some, sym, refl, ap}
+use Rattle.std.proofs.lemmas.Bool.Decides.{nat_tests}
+use Rattle.std.proofs.Common.{false, arith, ◌≡◌, [], ◌∷◌, Some, sym, refl, ap}
 use Rattle.task.specs.Task.{control}
 use Rattle.task.specs.View.{task_view}
 use Rattle.task.proofs.Grants.{control_granted}
@@ -8,16 +9,13 @@ use Rattle.supervisor.specs.Job.{carry_out, carried}
 use Rattle.supervisor.specs.Mailbox.{Taken}
 use Rattle.supervisor.specs.Steps.{job_view}
 use Rattle.supervisor.specs.View.{queues_view}
-use Rattle.supervisor.proofs.Books.{accepted, granted_after}
-use Rattle.supervisor.proofs.Jobs.{is_open}
+use Rattle.supervisor.proofs.Steps.{granted_after, accepted}
 use Rattle.supervisor.proofs.Mailboxes.{take_in, ending_room, settle_in}
 use Rattle.supervisor.proofs.job.Job.control_step.Goals as goal
 
 pub settle-requires : goal.settle-requires
 settle-requires g c =
-    let j = c.args.self.now in
-    let opened = is_open c.args.time _ (job_view j) (sym c.in_ok-may_step.ensures) in
-    ending_room _ _ (take_in _ c.in-Some.message _ (j.in_order opened) c.in-Some.ensures.taken)
+    ending_room _ _ (take_in _ c.in-Some.message _ (c.args.self.now.in_order (grind (arith, nat_tests))) c.in-Some.ensures.taken)
 
 pub invariant_of-self-2-clause-in_order : goal.invariant_of-self-2-clause-in_order
 invariant_of-self-2-clause-in_order g c e =
