@@ -27,16 +27,9 @@ module _ {M : Type 0} (R : Call → M → Done → M → Type 0) where
   linked-length [] a ts b h = grind arith
   linked-length (c ∷ cs) a ts b h = grind (arith, linked-length cs h.0.at h.1 b h.4)
 
-module _ {M : Type 0} (t : Turn M) where
-  answers_more : (ts : List (Turn M)) → answers_of (ts ++ t ∷ []) ≡ answers_of ts ++ t.did.answer ∷ []
-  answers_more [] = refl
-  answers_more (u ∷ ts) = cc (answers_more ts)
-
-  tried_more : (ts : List (Turn M)) → tried_in (ts ++ t ∷ []) ≡ tried_in ts + t.did.tried
-  tried_more ts = grind (arith, common_steps, is_sum_by (tried_in {M = M}) (λ u. u.did.tried) refl (λ _ _. refl))
-
-  ordered_more : (ts : List (Turn M)) → ordered_in (ts ++ t ∷ []) ≡ ordered_in ts + t.did.ordered
-  ordered_more ts = grind (arith, common_steps, is_sum_by (ordered_in {M = M}) (λ u. u.did.ordered) refl (λ _ _. refl))
+answers_more : {M : Type 0} (t : Turn M) (ts : List (Turn M)) → answers_of (ts ++ t ∷ []) ≡ answers_of ts ++ t.did.answer ∷ []
+answers_more t [] = refl
+answers_more t (u ∷ ts) = cc (answers_more t ts)
 
 -- one more answer, behind those that are written
 written_more : (rs xs : List (Result ℕ Refusal)) (i : ℕ) (y : Result ℕ Refusal) → length rs ≡ i → i < length xs → set (rs ++ drop i xs) i y ≡ (rs ++ y ∷ []) ++ drop (i + 1) xs
@@ -74,14 +67,14 @@ module _ {H T : Type 0} (by_host : Host.Ghosts H) (by_terminal : Terminal.Ghosts
 
   pub one_more : {calls : List Call} {i : ℕ} {a : Moment H T} {xs : List (Result ℕ Refusal)} {m n : ℕ} {b : Moment H T} {ys : List (Result ℕ Refusal)} (z : Call) (t : Turn (Moment H T)) → i < length calls → i < length xs → SoFar calls i a xs m n b ys → Makes by_host by_terminal (get_or calls i z) b t.did t.at → SoFar calls (i + 1) a xs (m + t.did.tried) (n + t.did.ordered) t.at (set ys i t.did.answer)
   one_more {calls} {i} {a} {xs} {m} {n} {b} {ys} z t l k h r =
-      let few = makes_few (get_or calls i z) b t.did t.at r in
+      let few : (t.did.tried ≤ 1) × (t.did.ordered ≤ 1) = makes_few (get_or calls i z) b t.did t.at r in
       let count : length (answers_of h.turns) ≡ i = omega (arith, linked-length (Makes by_host by_terminal) (take i calls) a h.turns b h.linked, length-take i calls) in
       record {
         turns = h.turns ++ t ∷ [];
         linked = rw (take_more calls i z l) (linked_more (Makes by_host by_terminal) (take i calls) a h.turns b (get_or calls i z) t h.linked r);
         answers = cc (h.answers, written_more (answers_of h.turns) xs i t.did.answer count k, answers_more t h.turns);
-        tried_is = omega (arith, h.tried_is, tried_more t h.turns);
-        ordered_is = omega (arith, h.ordered_is, ordered_more t h.turns);
+        tried_is = grind (arith, common_steps, is_sum_by (tried_in {M = Moment H T}) (λ u. u.did.tried) refl (λ _ _. refl));
+        ordered_is = grind (arith, common_steps, is_sum_by (ordered_in {M = Moment H T}) (λ u. u.did.ordered) refl (λ _ _. refl));
         tried_few = omega (arith, h.tried_few, few.0);
         ordered_few = omega (arith, h.ordered_few, few.1);
       }
