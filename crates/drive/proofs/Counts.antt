@@ -1,11 +1,9 @@
 -- The spawns among records, among the calls of a trace, and in a host's book.
-use Rattle.std.proofs.Common.{◌≡◌, ℕ, ◌+◌, ◌%◌, ◌^◌, if◌then◌else◌, List, [], ◌∷◌, count_by, refl, ◌∙◌, arith}
+use Rattle.std.proofs.Common.{◌≡◌, ◌+◌, ◌%◌, ◌^◌, if◌then◌else◌, List, [], ◌∷◌, count_by, refl, arith}
 use Rattle.std.proofs.lemmas.List.Recursion.{is_sum_by}
 use Rattle.host.specs.declared.journal.Record.{Record}
-use Rattle.host.specs.Calls as Calls
-use Rattle.host.specs.Calls.{Call, to_host, to_terminal, Reply, Event}
-use Rattle.host.specs.Journal.{event_record, journal}
-use Rattle.host.specs.Books as Books
+use Rattle.host.specs.Calls.{Event}
+use Rattle.host.specs.Journal.{journal}
 use Rattle.host.specs.Books.{HostBook, host_moved, host_along, spawns_in}
 use Rattle.drive.specs.Answers.{is_spawn, spawn_records}
 

@@ -1,5 +1,5 @@
 -- How a run goes on, call by call.
-use Rattle.std.proofs.Common.{◌≡◌, ℕ, suc, ◌+◌, ◌-◌, ◌%◌, ◌^◌, ◌<◌, ◌≤◌, List, [], ◌∷◌, ◌++◌, length, get_or, take, drop, set, Ok, Result, sym, refl, ap, ◌∙◌, subst, append_assoc, arith, length-take}
+use Rattle.std.proofs.Common.{◌≡◌, ℕ, ◌+◌, ◌%◌, ◌^◌, ◌<◌, ◌≤◌, List, [], ◌∷◌, ◌++◌, length, get_or, take, drop, set, Ok, Result, refl, arith, length-take}
 use Rattle.std.proofs.lemmas.List.{take_more, drop_more, take_all, set-append_right}
 use Rattle.std.proofs.lemmas.List.Recursion.{is_sum_by}
 use Rattle.std.proofs.lemmas.Grind.{common_steps}
@@ -9,10 +9,10 @@ use Rattle.supervisor.specs.declared.errors.Refusal.{Refusal}
 use Rattle.supervisor.specs.Job.{tree_of}
 use Rattle.supervisor.specs.Steps.{Moment}
 use Rattle.drive.specs.declared.calls.Call.{Call}
-use Rattle.drive.specs.declared.calls.Call.TheVariants.{Send, Step, Look, Collect}
+use Rattle.drive.specs.declared.calls.Call.TheVariants.{Step}
 use Rattle.drive.specs.declared.calls.Done.{Done}
 use Rattle.drive.specs.declared.calls.Tally.{Tally}
-use Rattle.drive.specs.Calls.{Makes, Quiet}
+use Rattle.drive.specs.Calls.{Makes}
 use Rattle.drive.specs.Runs.{Turn, Linked, answers_of, tried_in, ordered_in, Ran}
 use Rattle.drive.proofs.Steps.{step_few, step-spawns}
 
@@ -39,7 +39,7 @@ written_more rs xs i y e l = grind (arith, common_steps, drop_more xs i (Ok 0) l
 
 module _ {H T : Type 0} (by_host : Host.Ghosts H) (by_terminal : Terminal.Ghosts T) where
   -- a call tries at most one start, and takes at most one order
-  pub makes_few : (c : Call) (a : Moment H T) (d : Done) (b : Moment H T) → Makes by_host by_terminal c a d b → (d.tried ≤ 1) × (d.ordered ≤ 1)
+  makes_few : (c : Call) (a : Moment H T) (d : Done) (b : Moment H T) → Makes by_host by_terminal c a d b → (d.tried ≤ 1) × (d.ordered ≤ 1)
   makes_few (Step kind time) a d b r = rw r.does (step_few by_host by_terminal (tree_of kind) time a b r.answer r.step)
   makes_few c a d b r = (omega (arith, r.tried), omega (arith, r.ordered))
 
@@ -52,7 +52,7 @@ module _ {H T : Type 0} (by_host : Host.Ghosts H) (by_terminal : Terminal.Ghosts
   linked-spawns [] a ts b h = rw (h.0, h.1) (omega arith)
   linked-spawns (c ∷ cs) a ts b h = rw h.2 (omega (arith, linked-spawns cs h.0.at h.1 b h.4, makes-spawns c a h.0.did h.0.at h.3))
 
-  -- the first i calls were made
+  -- the first i calls were made, with at most one start and one order each
   pub record SoFar (calls : List Call) (i : ℕ) (a : Moment H T) (xs : List (Result ℕ Refusal)) (tried ordered : ℕ) (b : Moment H T) (ys : List (Result ℕ Refusal)) : Type 0 where
     pub turns : List (Turn (Moment H T))
     pub linked : Linked (Makes by_host by_terminal) (take i calls) a turns b

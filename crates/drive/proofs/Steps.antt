@@ -1,18 +1,17 @@
 -- What a step of a run did.
-use Rattle.std.proofs.Common.{◌≡◌, ℕ, ◌+◌, ◌%◌, ◌^◌, ◌≤◌, Bool, true, false, List, length, take, drop, IfOk, Ok, Err, Result, ap, ◌∙◌, arith, length-append}
+use Rattle.std.proofs.Common.{◌≡◌, ℕ, ◌+◌, ◌%◌, ◌^◌, ◌≤◌, length, take, drop, Ok, Err, Result, arith}
 use Rattle.std.proofs.lemmas.List.{take_at}
-use Rattle.host.specs.declared.journal.Record.{Record}
 use Rattle.host.specs.declared.process.Host as Host
 use Rattle.host.specs.declared.terminal.Terminal as Terminal
 use Rattle.host.specs.Interaction.{Interaction}
 use Rattle.host.specs.Journal.{journal}
-use Rattle.host.specs.Books.{HostBook, host_along, spawns_in}
+use Rattle.host.specs.Books.{spawns_in}
 use Rattle.supervisor.specs.declared.answers.Stepped.{Stepped}
 use Rattle.supervisor.specs.declared.errors.Refusal.{Refusal}
 use Rattle.supervisor.specs.Job.{JobView, Stepping}
 use Rattle.supervisor.specs.Steps.{Moment, Steps}
 use Rattle.task.proofs.Sheets.{journal-length}
-use Rattle.drive.specs.Answers.{spawn_records, truth, step_done}
+use Rattle.drive.specs.Answers.{spawn_records, step_done}
 use Rattle.drive.proofs.Counts.{journal-spawns, along_spawns}
 
 module _ {H T : Type 0} (by_host : Host.Ghosts H) (by_terminal : Terminal.Ghosts T) (tree : ℕ → JobView → Interaction Stepping) (time : ℕ) (a b : Moment H T) where

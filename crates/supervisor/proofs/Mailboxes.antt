@@ -3,7 +3,7 @@ use Rattle.std.proofs.Common.{◌≡◌, ℕ, ◌+◌, ◌<◌, Bool, true, Some
 use Rattle.std.proofs.lemmas.Bool.Decides.{nat_tests}
 use Rattle.std.proofs.lemmas.Grind.{common_steps}
 use Rattle.std.proofs.lemmas.List.Recursion.{is_sum_by}
-use Rattle.tickets.specs.Tickets.{is_raised, raise_each, found, vacate}
+use Rattle.tickets.specs.Tickets.{is_raised, raise_each, found}
 use Rattle.tickets.specs.Weights.{one_at, each}
 use Rattle.tickets.proofs.Tables.{weigh-append, weigh-each, raise_waiting, raise-taken, put-weight, vacate_waiting, vacate-taken, waiting_few, change-length}
 use Rattle.task.specs.declared.messages.Control.{Control}

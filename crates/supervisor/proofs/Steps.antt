@@ -3,9 +3,7 @@ use Rattle.std.proofs.Common.{◌≡◌, ℕ, List, length, Ok}
 use Rattle.host.specs.declared.journal.Record.{Record}
 use Rattle.host.specs.declared.process.Host as Host
 use Rattle.host.specs.declared.terminal.Terminal as Terminal
-use Rattle.host.specs.Calls.{HostCall, HostReply, TerminalCall, TerminalReply}
 use Rattle.host.specs.Interaction.{Interaction, World, Answered}
-use Rattle.host.specs.Books.{HostKeeps, TerminalKeeps}
 use Rattle.task.specs.Conducts.{Conducts}
 use Rattle.task.specs.Task.{TaskView, Granted}
 use Rattle.task.proofs.Always.{Always, always_ends}
@@ -14,7 +12,7 @@ use Rattle.supervisor.specs.declared.answers.StepKind.{StepKind}
 use Rattle.supervisor.specs.declared.answers.Stepped.{Stepped}
 use Rattle.supervisor.specs.Job.{may_step, tree_of}
 use Rattle.supervisor.specs.Steps.{Moment, job_view, world_at, stepping, Steps}
-use Rattle.supervisor.proofs.Books.{host_goes, terminal_goes}
+use Rattle.supervisor.proofs.Books.{HostKept, TerminalKept, host_goes, terminal_goes}
 use Rattle.supervisor.proofs.Starts.{step_few}
 
 module _ {H T : Type 0} {by_host : Host.Ghosts H} {by_terminal : Terminal.Ghosts T} where
@@ -23,7 +21,7 @@ module _ {H T : Type 0} {by_host : Host.Ghosts H} {by_terminal : Terminal.Ghosts
   granted_after {O} {tree} {w} {u} {xs} {ys} {n} {x} always r = always_ends (Answered by_host by_terminal) (λ y. Granted y.0) tree w u r.trace x always r.traces
 
   -- a step that is not refused is accepted, once its tree was run
-  pub accepted : ((h : H) (c : HostCall) (a : HostReply c) (k : H) → by_host.did h c a k → HostKeeps by_host.most (by_host.book h) c a (by_host.book k)) → ((t : T) (c : TerminalCall) (a : TerminalReply c) (k : T) → by_terminal.did t c a k → TerminalKeeps (by_terminal.book t) c a (by_terminal.book k)) → (kind : StepKind) (time : ℕ) {a b : Moment H T} {s : Stepped} → may_step time (length a.sheet) (job_view a.job) ≡ Ok tt → Conducts by_host by_terminal (tree_of kind time (job_view a.job)) (world_at a) a.sheet (stepping b.job s) s.records (world_at b) b.sheet → Steps by_host by_terminal (tree_of kind) time a (Ok s) b
+  pub accepted : HostKept by_host → TerminalKept by_terminal → (kind : StepKind) (time : ℕ) {a b : Moment H T} {s : Stepped} → may_step time (length a.sheet) (job_view a.job) ≡ Ok tt → Conducts by_host by_terminal (tree_of kind time (job_view a.job)) (world_at a) a.sheet (stepping b.job s) s.records (world_at b) b.sheet → Steps by_host by_terminal (tree_of kind) time a (Ok s) b
   accepted host_keeps terminal_keeps kind time {a} {b} {s} may r =
       let tree = tree_of kind time (job_view a.job) in (
         may,

@@ -1,3 +1,4 @@
+-- The run so far goes on with each call, to the run.
 use Rattle.std.proofs.Common.{◌+◌, set, arith}
 use Rattle.supervisor.specs.declared.sends.Send.TheVariants.{Start}
 use Rattle.supervisor.specs.Steps.{moment}

@@ -1,3 +1,4 @@
+-- The loop over the calls keeps the run so far.
 use Rattle.supervisor.specs.Steps.{moment}
 use Rattle.drive.proofs.Histories.{SoFar}
 use Rattle.drive.proofs.runs.drive.Given as goal

@@ -1,3 +1,4 @@
+-- What a look calls done is raised, so that its place may be freed.
 use Rattle.std.proofs.Common.{arith}
 use Rattle.supervisor.proofs.Mailboxes.{vacate_in}
 use Rattle.supervisor.proofs.job.Job.collect.Goals as goal

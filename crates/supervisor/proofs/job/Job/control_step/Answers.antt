@@ -1,16 +1,16 @@
+-- A control step keeps what holds of every job, and is accepted.
+use Rattle.std.proofs.Common.{sym, refl, arith}
 use Rattle.std.proofs.lemmas.Bool.Decides.{nat_tests}
-use Rattle.std.proofs.Common.{false, arith, ◌≡◌, [], ◌∷◌, Some, sym, refl, ap}
 use Rattle.task.specs.Task.{control}
 use Rattle.task.specs.View.{task_view}
 use Rattle.task.proofs.Grants.{control_granted}
 use Rattle.task.proofs.Sheets.{then_done, silent}
 use Rattle.supervisor.specs.declared.answers.StepKind.TheVariants.{Control}
-use Rattle.supervisor.specs.Job.{carry_out, carried}
-use Rattle.supervisor.specs.Mailbox.{Taken}
+use Rattle.supervisor.specs.Job.{carried}
 use Rattle.supervisor.specs.Steps.{job_view}
 use Rattle.supervisor.specs.View.{queues_view}
-use Rattle.supervisor.proofs.Steps.{granted_after, accepted}
 use Rattle.supervisor.proofs.Mailboxes.{take_in, ending_room, settle_in}
+use Rattle.supervisor.proofs.Steps.{granted_after, accepted}
 use Rattle.supervisor.proofs.job.Job.control_step.Goals as goal
 
 pub settle-requires : goal.settle-requires
@@ -36,4 +36,4 @@ returns g c =
     let v = job_view c.args.self.now in
     let message = c.in-Some.message in
     accepted g.met.H.Host.keeps g.met.T.Terminal.keeps Control c.args.time (sym c.in_ok-may_step.ensures)
-        (rw c.in-Some.ensures.taken (then_done (control message.control c.args.time v.task) (carried c.args.time v message (queues_view c.receive.new.self)) (cc) c.in-Some-control.ensures.1))
+    (rw c.in-Some.ensures.taken (then_done (control message.control c.args.time v.task) (carried c.args.time v message (queues_view c.receive.new.self)) (cc) c.in-Some-control.ensures.1))

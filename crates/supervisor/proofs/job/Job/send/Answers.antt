@@ -1,3 +1,4 @@
+-- A send leaves the mailbox in order.
 use Rattle.std.proofs.Common.{true, sym}
 use Rattle.supervisor.proofs.Mailboxes.{admit_in}
 use Rattle.supervisor.proofs.job.Job.send.Goals as goal
