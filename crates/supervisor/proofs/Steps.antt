@@ -1,4 +1,4 @@
--- What the run of a step's tree comes to.
+-- A step that is not refused is accepted.
 use Rattle.std.proofs.Common.{◌≡◌, ℕ, List, length, Ok}
 use Rattle.host.specs.declared.journal.Record.{Record}
 use Rattle.host.specs.declared.process.Host as Host
@@ -16,11 +16,7 @@ use Rattle.supervisor.proofs.Books.{HostKept, TerminalKept, host_goes, terminal_
 use Rattle.supervisor.proofs.Starts.{step_few}
 
 module _ {H T : Type 0} {by_host : Host.Ghosts H} {by_terminal : Terminal.Ghosts T} where
-  -- a grant is held only while a child runs, where the tree always ends so
-  pub granted_after : {O : Type 0} {tree : Interaction (TaskView × O)} {w u : World H T} {xs ys : List Record} {n : ℕ} {x : TaskView × O} → Always (λ y. Granted y.0) tree → Conducts by_host by_terminal tree w xs x n u ys → Granted x.0
-  granted_after {O} {tree} {w} {u} {xs} {ys} {n} {x} always r = always_ends (Answered by_host by_terminal) (λ y. Granted y.0) tree w u r.trace x always r.traces
-
-  -- a step that is not refused is accepted, once its tree was run
+  -- once its tree was run
   pub accepted : HostKept by_host → TerminalKept by_terminal → (kind : StepKind) (time : ℕ) {a b : Moment H T} {s : Stepped} → may_step time (length a.sheet) (job_view a.job) ≡ Ok tt → Conducts by_host by_terminal (tree_of kind time (job_view a.job)) (world_at a) a.sheet (stepping b.job s) s.records (world_at b) b.sheet → Steps by_host by_terminal (tree_of kind) time a (Ok s) b
   accepted host_keeps terminal_keeps kind time {a} {b} {s} may r =
       let tree = tree_of kind time (job_view a.job) in (

@@ -14,11 +14,6 @@ use Rattle.supervisor.proofs.job.Job.child_step.Goals as goal
 pub invariant_of-self-clause-in_order : goal.invariant_of-self-clause-in_order
 invariant_of-self-clause-in_order g c e = rw c.after_poll.ensures (after_poll_in c.in-Some.outcome _ (c.args.self.now.in_order e))
 
-pub invariant_of-self-clause-granted : goal.invariant_of-self-clause-granted
-invariant_of-self-clause-granted g c =
-    let j = c.args.self.now in
-    granted_after (poll_granted c.args.time (task_view j.task) j.granted) c.in-Some.ensures.1
-
 pub returns : goal.returns
 returns g c =
     let v = job_view c.args.self.now in

@@ -1,8 +1,10 @@
 -- A control step keeps what holds of every job, and is accepted.
 use Rattle.std.proofs.Common.{sym, refl, arith}
 use Rattle.std.proofs.lemmas.Bool.Decides.{nat_tests}
-use Rattle.task.specs.Task.{control}
+use Rattle.host.specs.Interaction.{Answered}
+use Rattle.task.specs.Task.{Granted, control}
 use Rattle.task.specs.View.{task_view}
+use Rattle.task.proofs.Always.{always_ends}
 use Rattle.task.proofs.Grants.{control_granted}
 use Rattle.task.proofs.Sheets.{then_done, silent}
 use Rattle.supervisor.specs.declared.answers.StepKind.TheVariants.{Control}
@@ -10,7 +12,7 @@ use Rattle.supervisor.specs.Job.{carried}
 use Rattle.supervisor.specs.Steps.{job_view}
 use Rattle.supervisor.specs.View.{queues_view}
 use Rattle.supervisor.proofs.Mailboxes.{take_in, ending_room, settle_in}
-use Rattle.supervisor.proofs.Steps.{granted_after, accepted}
+use Rattle.supervisor.proofs.Steps.{accepted}
 use Rattle.supervisor.proofs.job.Job.control_step.Goals as goal
 
 pub settle-requires : goal.settle-requires
@@ -24,7 +26,9 @@ invariant_of-self-2-clause-in_order g c e =
 pub invariant_of-self-2-clause-granted : goal.invariant_of-self-2-clause-granted
 invariant_of-self-2-clause-granted g c =
     let j = c.args.self.now in
-    granted_after (control_granted c.in-Some.message.control c.args.time (task_view j.task) j.granted) c.in-Some-control.ensures.1
+    let done = c.in-Some.message.control in
+    let run = c.in-Some-control.ensures.1 in
+    always_ends (Answered g.H.Host g.T.Terminal) (λ x. Granted x.0) (control done c.args.time (task_view j.task)) _ _ run.trace _ (control_granted done c.args.time (task_view j.task) j.granted) run.traces
 
 pub returns-in_default : goal.returns-in_default
 returns-in_default g c =
