@@ -4,11 +4,9 @@ use Rattle.supervisor.specs.declared.answers.StepKind.TheVariants.{Child}
 use Rattle.supervisor.specs.Job.{watched}
 use Rattle.supervisor.specs.Steps.{job_view}
 use Rattle.task.specs.Task.{poll_child}
-use Rattle.task.specs.View.{task_view}
-use Rattle.task.proofs.Grants.{poll_granted}
 use Rattle.task.proofs.Sheets.{then_done}
 use Rattle.supervisor.proofs.Mailboxes.{after_poll_in}
-use Rattle.supervisor.proofs.Steps.{granted_after, accepted}
+use Rattle.supervisor.proofs.Steps.{accepted}
 use Rattle.supervisor.proofs.job.Job.child_step.Goals as goal
 
 pub invariant_of-self-clause-in_order : goal.invariant_of-self-clause-in_order
