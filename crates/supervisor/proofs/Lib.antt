@@ -1,4 +1,4 @@
 pub mod Books
-pub mod Jobs
 pub mod Mailboxes
 pub mod Starts
+pub mod Steps

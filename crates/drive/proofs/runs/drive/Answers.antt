@@ -1,37 +1,30 @@
-use Rattle.std.proofs.Common.{◌<◌, ◌≤◌, length, get_or, arith}
-use Rattle.drive.specs.declared.calls.Call.TheVariants.{Send}
+-- The run so far goes on with each call, to the run.
+use Rattle.std.proofs.Common.{◌+◌, set, arith}
 use Rattle.supervisor.specs.declared.sends.Send.TheVariants.{Start}
-use Rattle.drive.proofs.Histories.{at_first, one_more, makes_few, all_made}
+use Rattle.supervisor.specs.Steps.{moment}
+use Rattle.drive.specs.declared.calls.Call.TheVariants.{Send}
+use Rattle.drive.proofs.Histories.{SoFar, at_first, one_more, all_made}
 use Rattle.drive.proofs.runs.drive.Given as given
 use Rattle.drive.proofs.runs.drive.Goals as goal
 use Rattle.drive.proofs.runs.drive.Goals.{After-make-done}
 
--- a turn's call tries at most one start, and takes at most one order
-few : (g : given.Over) (c : After-make-done g) → (c.make-done.result.tried ≤ 1) × (c.make-done.result.ordered ≤ 1)
-few g c =
+-- the run so far, with the turn's call
+next : (g : given.Over) (c : After-make-done g) → SoFar g.H.Host g.T.Terminal c.args.calls.now (c.loop-i.i + 1) (moment c.args.job.now c.args.host.now c.args.terminal.now c.args.sheet.now) c.args.answers.now (c.loop-i.tried + c.make-done.result.tried) (c.loop-i.ordered + c.make-done.result.ordered) (moment c.make-done.new.job c.make-done.new.host c.make-done.new.terminal c.make-done.new.sheet) (set c.loop-i.answers c.loop-i.i c.make-done.result.answer)
+next g c =
     let after = c.make-done.new in
-    makes_few g.H.Host g.T.Terminal (get_or c.args.calls.now c.loop-i.i (Send Start)) _ c.make-done.result
-    (record { job = after.job; host = after.host; terminal = after.terminal; sheet = after.sheet }) c.make-done.ensures
+    one_more g.H.Host g.T.Terminal (Send Start) (record { did = c.make-done.result; at = moment after.job after.host after.terminal after.sheet }) (omega arith) (omega arith) c.loop-i.invariant c.make-done.ensures
 
 pub overflow_add-tried : goal.overflow_add-tried
-overflow_add-tried g c = omega (arith, (few g (goal.at.overflow_add-tried g c).After-make-done).0, c.loop-i.invariant.0)
+overflow_add-tried g c = omega (arith, (next g (goal.at.overflow_add-tried g c).After-make-done).tried_few)
 
 pub overflow_add-ordered : goal.overflow_add-ordered
-overflow_add-ordered g c = omega (arith, (few g (goal.at.overflow_add-ordered g c).After-make-done).1, c.loop-i.invariant.1)
+overflow_add-ordered g c = omega (arith, (next g (goal.at.overflow_add-ordered g c).After-make-done).ordered_few)
 
 pub loop-i-init : goal.loop-i-init
-loop-i-init g c = (omega arith, omega arith, at_first g.H.Host g.T.Terminal c.args.calls.now _ c.args.answers.now)
+loop-i-init g c = at_first g.H.Host g.T.Terminal c.args.calls.now _ c.args.answers.now
 
 pub loop-i-preserved : goal.loop-i-preserved
-loop-i-preserved g c =
-    let h = few g (goal.at.loop-i-preserved g c).After-make-done in
-    let l : c.loop-i.i < length c.args.calls.now = omega arith in
-    let k : c.loop-i.i < length c.args.answers.now = omega arith in (
-      omega (arith, h.0, c.loop-i.invariant.0),
-      omega (arith, h.1, c.loop-i.invariant.1),
-      one_more g.H.Host g.T.Terminal c.args.calls.now c.loop-i.i (Send Start) _ c.args.answers.now c.loop-i.tried c.loop-i.ordered _ c.loop-i.answers c.make-done.result _ l k c.loop-i.invariant.2 c.make-done.ensures,
-    )
+loop-i-preserved g c = next g (goal.at.loop-i-preserved g c).After-make-done
 
 pub returns : goal.returns
-returns g c =
-    (c.if-answers-calls.false, all_made g.H.Host g.T.Terminal c.args.calls.now c.loop-i.i _ c.args.answers.now _ _ _ c.loop-i-test.false (omega arith) c.loop-i.invariant.2)
+returns g c = (c.if-answers-calls.false, all_made g.H.Host g.T.Terminal (omega arith) c.loop-i.invariant)

@@ -1,7 +1,8 @@
-use Rattle.std.proofs.Common.{◌≤◌}
+-- The loop over the calls keeps the run so far.
+use Rattle.supervisor.specs.Steps.{moment}
 use Rattle.drive.proofs.Histories.{SoFar}
 use Rattle.drive.proofs.runs.drive.Given as goal
 
 abbrev pub invariant-loop-i : goal.invariant-loop-i
 invariant-loop-i g l =
-    (l.tried ≤ l.i) × (l.ordered ≤ l.i) × SoFar g.H.Host g.T.Terminal l.calls l.i (record { job = l.initial.job; host = l.initial.host; terminal = l.initial.terminal; sheet = l.initial.sheet }) l.initial.answers l.tried l.ordered (record { job = l.job; host = l.host; terminal = l.terminal; sheet = l.sheet }) l.answers
+    SoFar g.H.Host g.T.Terminal l.calls l.i (moment l.initial.job l.initial.host l.initial.terminal l.initial.sheet) l.initial.answers l.tried l.ordered (moment l.job l.host l.terminal l.sheet) l.answers

@@ -1,17 +1,7 @@
-use Rattle.std.proofs.Common.{[], sym, subst}
-use Rattle.tickets.specs.Tickets.{found}
-use Rattle.supervisor.specs.Sound.{InOrder}
-use Rattle.supervisor.specs.View.{mailbox_view}
+-- What a look calls done is raised, so that its place may be freed.
+use Rattle.std.proofs.Common.{arith}
 use Rattle.supervisor.proofs.Mailboxes.{vacate_in}
-use Rattle.supervisor.proofs.Jobs.{done-raised}
 use Rattle.supervisor.proofs.job.Job.collect.Goals as goal
 
-pub invariant_of-self : goal.invariant_of-self
-invariant_of-self c =
-    let j = c.args.self.now in
-    let m = mailbox_view j.mailbox in
-    record {
-      in_order = λ e. subst (InOrder []) (sym c.vacate.ensures) (vacate_in c.args.ticket m (j.in_order e) (done-raised (found c.args.ticket m.table) j.closed _ e c.if-not-branch.false c.in_ok-is_done.ensures));
-      granted = j.granted;
-      timely = j.timely;
-    }
+pub invariant_of-self-clause-in_order : goal.invariant_of-self-clause-in_order
+invariant_of-self-clause-in_order c e = rw c.vacate.ensures (vacate_in _ _ (c.args.self.now.in_order e) (grind arith))
