@@ -39,16 +39,14 @@ module _ {H T : Type 0} {by_host : Host.Ghosts H} {by_terminal : Terminal.Ghosts
   pub at_value : {A V : Type 0} (f : V → Interaction A) {v w : V} {n : ℕ} {s s' : Step H T} {x : A} → v ≡ w → Performs by_host by_terminal n (f v) s x s' → Performs by_host by_terminal n (f w) s x s'
   at_value {A} {V} f {v} {w} {n} {s} {s'} {x} e k = subst (λ (z : V). Performs by_host by_terminal n (f z) s x s') e k
 
-  -- one call that was answered, and then recorded
-  pub asked : (c : Call) {a : Reply c} {s m s' : Step H T} {r : Record} → Answered by_host by_terminal (world (place s)) c a (world (place m)) → Same s m → m.task.now ≡ s.task.now → m.sheet ≡ s.sheet → m.used ≡ s.used → Records r m s' → r ≡ record_of c a → Asks by_host by_terminal c s a s'
-  asked c {a} {s} {m} {s'} {r} d same t h u w e =
+  -- one call that was answered, and then recorded: it left h in the host and k in the terminal
+  pub asked : {c : Call} {a : Reply c} {s s' : Step H T} {h : H} {k : T} {r : Record} → Answered by_host by_terminal (world (place s)) c a (record { host = h; terminal = k }) → Records r (record s { host = record s.host { now = h }; terminal = record s.terminal { now = k } }) s' → r ≡ record_of c a → Asks by_host by_terminal c s a s'
+  asked {c} {a} {s} {s'} d w e =
       let answered : Answered by_host by_terminal (world (place s)) c a (world (place s')) = rw (w.host, w.terminal) d in
-      let sheet : s'.sheet.now ≡ slice_set s.sheet.now s.used (record_of c a) = rw (← e, ← h, ← u) w.sheet in
-      let here : Asked by_host by_terminal (place s) c a (place s') = (answered, sheet, omega (arith, w.used, u)) in
-      let recorded : Same m s' = record { task = rw w.task refl; host = rw w.host refl; terminal = rw w.terminal refl; sheet = w.same_sheet; time = w.time } in
+      let here : Asked by_host by_terminal (place s) c a (place s') = (answered, rw (← e) w.sheet, w.used) in
       record {
-        performs = record { ran = Running.once c a (place s) (place s') here; used = omega (arith, w.used, u); same = same_then same recorded };
-        task = rw w.task t;
+        performs = record { ran = Running.once c a (place s) (place s') here; used = omega (arith, w.used); same = record { task = rw w.task refl; host = rw w.host refl; terminal = rw w.terminal refl; sheet = w.same_sheet; time = w.time } };
+        task = rw w.task refl;
       }
 
   -- one tree, and the one that follows from its value
