@@ -1,4 +1,5 @@
 pub mod Always
+pub mod Courses
 pub mod Grants
 pub mod Performing
 pub mod Reporting
