@@ -11,4 +11,4 @@ pub returns : goal.returns
 returns g c =
     let s = c.args.self.now in
     at_value (λ (end : Option ProcessEnd). Tree.polled c.args.started s.time (task_of s) (Ok end)) (sym c.in-Some.is)
-    (from_change refl (and_then (Tree.yield (Tree.in_state (Finished c.in-Some.end c.args.started s.time) (task_of s))) _ c.yield_foreground.ensures (still_at refl refl)))
+    (from_change (and_then (Tree.yield (Tree.in_state (Finished c.in-Some.end c.args.started s.time) (task_of s))) _ c.yield_foreground.ensures (still_at refl)))

@@ -10,4 +10,4 @@ returns g c =
     let s = c.args.self.now in
     let part = Tree.launch s.time (task_of s) in
     at_value (λ (b : Bool). Tree.start_unless b s.time (task_of s)) c.if-is_running.ensures
-    (and_then (Tree.reported part) _ (telling part c.launch-launched.ensures c.report.ensures.told) (still_at refl (rw c.report.ensures.task refl)))
+    (and_then (Tree.reported part) _ (telling part c.launch-launched.ensures c.report.ensures.told) (still_at (rw c.report.ensures.task refl)))
