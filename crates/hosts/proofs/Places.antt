@@ -1,9 +1,6 @@
 -- What a child's life, its removal and a new life are, by the place of the child in the list.
 use Rattle.std.proofs.Common.{◌≡◌, ℕ, suc, ◌+◌, ◌<◌, ◌≤◌, All, true, false, ◌==◌, List, [], ◌∷◌, get_or, slice_set, take, drop, length, position, Option, Some, None, one-add, refl, ap, ◌∙◌, arith}
 use Rattle.std.proofs.lemmas.Bool.Decides.{nat_tests}
-use Rattle.std.proofs.lemmas.Grind.{common_steps}
-use Rattle.std.proofs.lemmas.List.{set_past}
-use Rattle.std.proofs.lemmas.List.Elements.{All-append, All-take, All-drop}
 use Rattle.std.specs.List.{remove, position_or_len}
 use Rattle.hosts.specs.declared.children.Life.{Life}
 use Rattle.hosts.specs.declared.children.Child.{Child}
@@ -31,8 +28,9 @@ pub with_life-set : (n : ℕ) (life : Life) (cs : List Child) (d : Child) → wi
 with_life-set n life [] d = refl
 with_life-set n life (c ∷ cs) d = grind (arith, nat_tests, one-add, with_life-set n life cs d)
 
-pub All-remove : {X : Type 0} (P : X → Type 0) (xs : List X) (i : ℕ) → All P xs → All P (remove xs i)
-All-remove P xs i all = All-append P (take i xs) (drop (suc i) xs) (All-take P i xs all) (All-drop P (suc i) xs all)
+pub with_life_past : (n : ℕ) (life : Life) (cs : List Child) → length cs ≤ place n cs → with_life n life cs ≡ cs
+with_life_past n life [] h = refl
+with_life_past n life (c ∷ cs) h = grind (arith, nat_tests, one-add, with_life_past n life cs)
 
 -- nothing changes where a child is given the life that it has
 pub same_life : (n : ℕ) (life : Life) (cs : List Child) → life_of n cs ≡ Some life → with_life n life cs ≡ cs

@@ -7,4 +7,4 @@ pub returns : goal.returns
 returns c = grind (arith, nat_tests, life-place c.args.number c.args.self.now.children.items c.index-deref-at.result)
 
 pub returns-in_err-at : goal.returns-in_err-at
-returns-in_err-at c = grind (arith, nat_tests, life_past c.args.number c.args.self.now.children.items)
+returns-in_err-at c = grind (arith, nat_tests, life_past)

@@ -1,15 +1,18 @@
-use Rattle.std.proofs.Common.{arith, sym, subst, ◌<◌, All, List}
-use Rattle.std.proofs.lemmas.Bool.Decides.{nat_tests}
-use Rattle.std.proofs.lemmas.Grind.{common_steps}
-use Rattle.hosts.specs.declared.children.Child.{Child}
-use Rattle.hosts.proofs.Places.{without-remove, All-remove}
+use Rattle.std.proofs.Common.{ℕ, ◌<◌, All, List, arith}
+use Rattle.std.proofs.lemmas.Grind.{common_steps, pieces}
+use Rattle.std.specs.List.{remove}
+use Rattle.hosts.proofs.Places.{without-remove}
 use Rattle.hosts.proofs.roster.Roster.strike.Goals as goal
+
+-- what holds of all holds of those that are left
+All-remove : {X : Type 0} (P : X → Type 0) (xs : List X) (i : ℕ) → All P xs → All P (remove xs i)
+All-remove P xs i all = search (pieces, arith)
 
 pub invariant_of-self-clause-numbered : goal.invariant_of-self-clause-numbered
 invariant_of-self-clause-numbered c = rw c.remove.ensures.items (All-remove (λ x. x.number < c.args.self.now.next) c.args.self.now.children.items c.in-Some.at c.args.self.now.numbered)
 
 pub returns-in-Some : goal.returns-in-Some
-returns-in-Some c = grind (arith, common_steps, without-remove c.args.number c.args.self.now.children.items)
+returns-in-Some c = grind (arith, common_steps, without-remove)
 
 pub returns-in_default : goal.returns-in_default
-returns-in_default c = grind (arith, common_steps, without-remove c.args.number c.args.self.now.children.items)
+returns-in_default c = grind (arith, common_steps, without-remove)
