@@ -1,5 +1,5 @@
 -- What a child's life, its removal and a new life are, by the place of the child in the list.
-use Rattle.std.proofs.Common.{◌≡◌, ℕ, suc, ◌+◌, ◌<◌, ◌≤◌, All, true, false, ◌==◌, List, [], ◌∷◌, get_or, slice_set, take, drop, length, position, Option, Some, None, one-add, refl, ap, ◌∙◌, arith}
+use Rattle.std.proofs.Common.{◌≡◌, ℕ, ◌+◌, ◌<◌, ◌≤◌, ◌==◌, List, [], ◌∷◌, get_or, slice_set, length, Some, None, one-add, refl, arith}
 use Rattle.std.proofs.lemmas.Bool.Decides.{nat_tests}
 use Rattle.std.specs.List.{remove, position_or_len}
 use Rattle.hosts.specs.declared.children.Life.{Life}

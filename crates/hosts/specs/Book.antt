@@ -1,6 +1,6 @@
 -- The book of the simulated host keeps its rules.
-use Rattle.std.specs.Prelude.{◌≡◌, ℕ, suc, ◌^◌, ◌<◌, ◌≤◌, Bool, true, false, if◌then◌else◌, ◌||◌, List, [], ◌∷◌, ◌++◌, length, is_some, Some, None, Ok, Err, Option, Result, ◌==◌, nat_le, nat_lt, refl, ⊤}
-use Rattle.std.proofs.Common.{sym, ap, subst, ◌∙◌, arith}
+use Rattle.std.specs.Prelude.{◌≡◌, ℕ, suc, ◌^◌, ◌<◌, ◌≤◌, Bool, true, false, if◌then◌else◌, List, [], ◌∷◌, ◌++◌, length, is_some, Some, None, Ok, Err, Option, Result, nat_le, refl, ⊤}
+use Rattle.std.proofs.Common.{ap, ◌∙◌, arith}
 use Rattle.std.proofs.lemmas.Bool.Decides.{nat_tests}
 use Rattle.std.proofs.lemmas.List.{map-append, length-map}
 use Rattle.std.proofs.lemmas.Bool.{cond_both}
@@ -10,7 +10,7 @@ use Rattle.host.specs.declared.command.SpawnOptions.{SpawnOptions}
 use Rattle.host.specs.Calls.{HostCall, spawn, poll, wait, kill, signal, cont, let_go, hook, routine, tell, HostReply}
 use Rattle.host.specs.Books.{HostFits, HostKeeps, IsFault, MayFault, next_count, on_roster, roster_after, spawns_after, strike}
 use Rattle.hosts.specs.declared.children.Life.{Life}
-use Rattle.hosts.specs.declared.children.Life.TheVariants.{Going, Stopped, Ended}
+use Rattle.hosts.specs.declared.children.Life.TheVariants.{Going, Ended}
 use Rattle.hosts.specs.declared.children.Child.{Child}
 use Rattle.hosts.specs.Children.{child, numbers, life_of, without, with_life, reported, has_room, AreNumbered}
 use Rattle.hosts.specs.Signals.{delivered}

@@ -1,5 +1,5 @@
 -- What holds at the end of an interaction tree, and at most how many starts are tried in it, whatever is answered.
-use Rattle.std.proofs.Common.{◌≡◌, ℕ, ◌+◌, ◌-◌, ◌≤◌, List, sym, subst, ap, arith}
+use Rattle.std.proofs.Common.{ℕ, ◌+◌, ◌≤◌, List, ap, arith}
 use Rattle.host.specs.Calls.{Call, Reply, Event}
 use Rattle.host.specs.Interaction.{Interaction, done, ask, bind, Traces}
 use Rattle.host.specs.Books.{is_spawn, spawns_in}

@@ -1,5 +1,5 @@
 -- The trees of a control and of a poll: one start is tried at most, and what is said of the grant stays, whatever host and terminal answer.
-use Rattle.std.proofs.Common.{ℕ, Bool, true, false, Some, None, Ok, Err, Option, Result, arith, rules}
+use Rattle.std.proofs.Common.{ℕ, Bool, true, false, Some, None, Ok, Err, Option, Result, arith}
 use Rattle.std.specs.Prelude.{⊤}
 use Rattle.host.specs.declared.fault.Fault.{Fault}
 use Rattle.host.specs.declared.state.ProcessEnd.{ProcessEnd}

@@ -1,4 +1,3 @@
-use Rattle.std.proofs.Common.{refl}
 use Rattle.host.specs.Interaction.{call}
 use Rattle.task.proofs.Performing.{still_at, and_then}
 use Rattle.task.proofs.step.Step.spawn_options.Goals as goal
