@@ -30,18 +30,19 @@ module _ {H T : Type 0} (by_host : Host.Ghosts H) (by_terminal : Terminal.Ghosts
       let places : length m.sheet ≡ length s.sheet = ap length h.4.1 ∙ length-set s.sheet s.used _ in
       let rest = apart (k h.0) m s' h.2 x (omega arith) h.5 in
       let count : s'.used ≡ s.used + suc (length h.2) = omega (arith, rest.1, h.4.2) in
-      rw h.3
-      ((h.0, world m, h.2, refl, h.4.0, rest.0),
-      count,
-      rest.2 ∙ rw (h.4.1, h.4.2) (written_next s.sheet (journal h.2) s.used (length h.2) (record_of c h.0) (omega (arith, count))))
+      rw h.3 (
+        (h.0, world m, h.2, refl, h.4.0, rest.0),
+        count,
+        rest.2 ∙ rw (h.4.1, h.4.2) (written_next s.sheet (journal h.2) s.used (length h.2) (record_of c h.0) (omega (arith, count))),
+      )
 
 module _ {H T : Type 0} {by_host : Host.Ghosts H} {by_terminal : Terminal.Ghosts T} where
   -- a run through what is lent from an empty sheet on, at what the lenders hold after it
-  pub conducted : {A : Type 0} {t : Interaction A} {n : ℕ} {o o' : Step H T} {x : A} {h : H} {m : T} {xs : List Record} → o.used ≡ 0 → n ≤ length o.sheet.now → h ≡ o'.host.now → m ≡ o'.terminal.now → xs ≡ o'.sheet.now → Performs by_host by_terminal n t o x o' → Conducts by_host by_terminal t (world (place o)) o.sheet.now x o'.used (record { host = h; terminal = m }) xs
-  conducted {t = t} {o = o} {o' = o'} {x = x} z few eh em ex r =
+  pub conducted : {A : Type 0} {t : Interaction A} {n : ℕ} {o o' : Step H T} {x y : A} {h : H} {m : T} {xs : List Record} → o.used ≡ 0 → n ≤ length o.sheet.now → y ≡ x → h ≡ o'.host.now → m ≡ o'.terminal.now → xs ≡ o'.sheet.now → Performs by_host by_terminal n t o x o' → Conducts by_host by_terminal t (world (place o)) o.sheet.now y o'.used (record { host = h; terminal = m }) xs
+  conducted {t = t} {o = o} {o' = o'} {x = x} z few ey eh em ex r =
       let p = r.ran.trace in
       let run = apart by_host by_terminal t (place o) (place o') p x (omega (arith, r.used)) r.ran.traces in
-      rw (eh, em, ex) (record { trace = p; traces = run.0; count = omega (arith, run.1); sheet = simp (z, zero-add) at run.2 })
+      rw (ey, eh, em, ex) (record { trace = p; traces = run.0; count = omega (arith, run.1); sheet = simp (z, zero-add) at run.2 })
 
   -- what follows a run without a call
   pub then_done : {A B : Type 0} (t : Interaction A) (f : A → B) {w w' : World H T} {xs ys : List Record} {n : ℕ} {x : A} {y : B} → y ≡ f x → Conducts by_host by_terminal t w xs x n w' ys → Conducts by_host by_terminal (bind t (λ z. done (f z))) w xs y n w' ys
