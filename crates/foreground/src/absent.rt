@@ -1,9 +1,7 @@
 // The absent terminal: nobody has its foreground, and nobody gets it.
 ghost use Rattle.std.specs.Prelude.{◌≡◌};
-ghost use Rattle.std.proofs.Common.{sym, subst, rules};
+ghost use Rattle.std.proofs.Common.{rules};
 ghost use Rattle.foreground.specs.Absent.{Did, answer, book_of, counted, fresh};
-ghost use Rattle.host.specs.Calls.{TerminalReply};
-ghost use Rattle.host.specs.Books.{TerminalBook, TerminalKeeps};
 ghost use Rattle.foreground.specs.Book.{answered};
 
 use host::fault::Fault;
@@ -34,9 +32,7 @@ impl Terminal for AbsentTerminal {
 
     ghost did = { Did };
 
-    ghost keeps = { λ t c a u d.
-        subst (λ (b : TerminalBook). TerminalKeeps (book_of t) c a b) (sym d.1)
-        (subst (λ (r : TerminalReply c). TerminalKeeps (book_of t) c r (counted (book_of t))) (sym d.0) (answered t c)) };
+    ghost keeps = { λ t c a u d. rw (d.0, d.1) (answered t c) };
 
     ghost sound = { Prim.search rules };
 

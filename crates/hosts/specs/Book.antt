@@ -1,15 +1,16 @@
 -- The book of the simulated host keeps its rules.
-use Rattle.std.specs.Prelude.{◌≡◌, ℕ, suc, ◌^◌, ◌<◌, ◌≤◌, Bool, true, false, if◌then◌else◌, ◌||◌, List, [], ◌∷◌, ◌++◌, length, is_some, Some, None, Ok, Err, Option, Result, ◌==◌, nat_le, nat_lt, refl, ⊤}
-use Rattle.std.proofs.Common.{sym, ap, subst, ◌∙◌, arith}
+use Rattle.std.specs.Prelude.{◌≡◌, ℕ, suc, ◌^◌, ◌<◌, ◌≤◌, Bool, true, false, if◌then◌else◌, List, [], ◌∷◌, ◌++◌, length, is_some, Some, None, Ok, Err, Option, Result, nat_le, refl, ⊤}
+use Rattle.std.proofs.Common.{ap, ◌∙◌, arith}
+use Rattle.std.proofs.lemmas.Bool.Decides.{nat_tests}
 use Rattle.std.proofs.lemmas.List.{map-append, length-map}
-use Rattle.std.proofs.lemmas.Bool.{ltb-true, eqb-true, ne_eqb, and_parts, both_ways, cond_both}
+use Rattle.std.proofs.lemmas.Bool.{cond_both}
 use Rattle.host.specs.Fault.{fault}
 use Rattle.host.specs.declared.fault.Fault.{Fault}
 use Rattle.host.specs.declared.command.SpawnOptions.{SpawnOptions}
 use Rattle.host.specs.Calls.{HostCall, spawn, poll, wait, kill, signal, cont, let_go, hook, routine, tell, HostReply}
 use Rattle.host.specs.Books.{HostFits, HostKeeps, IsFault, MayFault, next_count, on_roster, roster_after, spawns_after, strike}
 use Rattle.hosts.specs.declared.children.Life.{Life}
-use Rattle.hosts.specs.declared.children.Life.TheVariants.{Going, Stopped, Ended}
+use Rattle.hosts.specs.declared.children.Life.TheVariants.{Going, Ended}
 use Rattle.hosts.specs.declared.children.Child.{Child}
 use Rattle.hosts.specs.Children.{child, numbers, life_of, without, with_life, reported, has_room, AreNumbered}
 use Rattle.hosts.specs.Signals.{delivered}
@@ -20,33 +21,26 @@ use Rattle.hosts.specs.Simulated.{IsFit, Sim, book_of, answer, after, children_a
 -- who has a life is on the roster
 on_is_some : (n : ℕ) (cs : List Child) → on_roster n (numbers cs) ≡ is_some (life_of n cs)
 on_is_some n [] = refl
-on_is_some n (c ∷ cs) =
-    elim (n == c.number) as (λ b. (b || on_roster n (numbers cs)) ≡ is_some (if b then Some c.life else life_of n cs))
-    [ true ↦ refl | false ↦ on_is_some n cs ]
+on_is_some n (c ∷ cs) = grind (arith, on_is_some n cs)
 
 numbers-without : (n : ℕ) (cs : List Child) → numbers (without n cs) ≡ strike n (numbers cs)
 numbers-without n [] = refl
-numbers-without n (c ∷ cs) =
-    elim (n == c.number) as (λ b. numbers (if b then cs else c ∷ without n cs) ≡ (if b then numbers cs else c.number ∷ strike n (numbers cs)))
-    [ true ↦ refl | false ↦ ap (λ (ns : List ℕ). c.number ∷ ns) (numbers-without n cs) ]
+numbers-without n (c ∷ cs) = grind (arith, numbers-without n cs)
 
 numbers-with_life : (n : ℕ) (life : Life) (cs : List Child) → numbers (with_life n life cs) ≡ numbers cs
 numbers-with_life n life [] = refl
-numbers-with_life n life (c ∷ cs) =
-    cond_both (n == c.number) _ _ (λ (ds : List Child). numbers ds ≡ numbers (c ∷ cs))
-    (λ e. ap (λ (m : ℕ). m ∷ numbers cs) (eqb-true n c.number e))
-    (λ e. ap (λ (ns : List ℕ). c.number ∷ ns) (numbers-with_life n life cs))
+numbers-with_life n life (c ∷ cs) = grind (arith, nat_tests, numbers-with_life n life cs)
 
 -- the next number is off the roster
 next_is_off : (next : ℕ) (cs : List Child) → AreNumbered next cs → on_roster next (numbers cs) ≡ false
 next_is_off next [] h = refl
 next_is_off next (c ∷ cs) h =
-    let l : c.number < next = h 0 c (omega arith) in
-    ap (λ (b : Bool). b || on_roster next (numbers cs)) (ne_eqb next c.number (λ e. omega arith)) ∙ next_is_off next cs (λ k d l. h (suc k) d (omega arith))
+    let below : c.number < next = h 0 c (omega arith) in
+    grind (arith, nat_tests, below, next_is_off next cs (λ k d l. h (suc k) d (omega arith)))
 
 -- as many numbers as children
 pub bounded : (cs : List Child) → length cs ≤ 16 → length (numbers cs) ≤ 16
-bounded cs few = subst (λ (n : ℕ). n ≤ 16) (sym (length-map cs (λ c. c.number))) few
+bounded cs few = simp length-map few
 
 -- THE RULES
 
@@ -72,27 +66,23 @@ module _ (s : Sim) (begun : 100 ≤ s.next) (numbered : AreNumbered s.next s.chi
 
   -- on the roster, it may be any
   on_faults : (n code : ℕ) (life : Life) → life_of n cs ≡ Some life → IsFault (fault code) → MayFault n roster (fault code)
-  on_faults n code life e h = (h, λ o. absurd (both_ways _ o (on n life e)))
+  on_faults n code life e h = (h, λ o. cc (on n life e))
 
   spawned : (program : ℕ) (options : SpawnOptions) (way time : ℕ) (b : Bool) → has_room s.next cs ≡ b → Rules (spawn program options way time) (if b then Ok s.next else Err (fault 11)) (if b then cs ++ child s.next Going ∷ [] else cs)
   spawned program options way time true e =
-      let p = and_parts (nat_lt (length cs) 16) (nat_lt s.next (2 ^ 31)) e in
-      let few : length cs < 16 = ltb-true (length cs) 16 p.0 in
-      let below : s.next < 2 ^ 31 = ltb-true s.next (2 ^ 31) p.1 in
-      (map-append _ cs (child s.next Going ∷ []), (next_is_off s.next cs numbered, omega arith, below, omega (arith, length-map cs (λ c. c.number))))
+      let room : (length cs < 16) × (s.next < 2 ^ 31) = grind (arith, nat_tests) in
+      (map-append _ cs (child s.next Going ∷ []), (next_is_off s.next cs numbered, omega arith, room.1, omega (arith, room.0, length-map cs (λ c. c.number))))
   spawned program options way time false e = (refl, ((omega arith, omega arith), λ _. refl))
 
   polled : (n : ℕ) (o : Option Life) → life_of n cs ≡ o → IsFit (poll n) (poll_answer o) → Rules (poll n) (poll_answer o) (reported n o cs)
   polled n None e fit = (refl, off n)
-  polled n (Some Going) e fit = (refl, on n Going e)
-  polled n (Some Stopped) e fit = (refl, on n Stopped e)
   polled n (Some (Ended end)) e fit = (numbers-without n cs, (on n (Ended end) e, fit))
+  polled n (Some life) e fit = (refl, on n life e)
 
   waited : (n : ℕ) (o : Option Life) → life_of n cs ≡ o → IsFit (wait n) (wait_answer o) → Rules (wait n) (wait_answer o) (reported n o cs)
   waited n None e fit = (refl, off n)
-  waited n (Some Going) e fit = (refl, on_faults n 4 Going e (omega arith, omega arith))
-  waited n (Some Stopped) e fit = (refl, on_faults n 4 Stopped e (omega arith, omega arith))
   waited n (Some (Ended end)) e fit = (numbers-without n cs, (on n (Ended end) e, fit))
+  waited n (Some life) e fit = (refl, on_faults n 4 life e (omega arith, omega arith))
 
   -- what holds of a fit fault, and of Ok where the child is on the roster, holds of the answer to a signal
   sent : (P : Result ⊤ Fault → Type 0) → (n number : ℕ) (o : Option Life) → life_of n cs ≡ o → ((f : Fault) → MayFault n roster f → P (Err f)) → (on_roster n roster ≡ true → P (Ok tt)) → P (signal_answer number o)
@@ -101,7 +91,7 @@ module _ (s : Sim) (begun : 100 ≤ s.next) (numbered : AreNumbered s.next s.chi
 
   same_roster : (n number : ℕ) (o : Option Life) → numbers (signalled s.mask number n o cs) ≡ roster
   same_roster n number None = refl
-  same_roster n number (Some life) = cond_both (nat_le number 31) (with_life n (delivered s.mask number life) cs) cs (λ (ds : List Child). numbers ds ≡ roster) (λ _. numbers-with_life n _ cs) (λ _. refl)
+  same_roster n number (Some life) = grind (arith, numbers-with_life n (delivered s.mask number life) cs)
 
   rules : (c : HostCall) → IsFit c (answer s c) → Rules c (answer s c) (children_after s c)
   rules (spawn program options way time) fit = spawned program options way time _ refl
@@ -122,6 +112,4 @@ module _ (s : Sim) (begun : 100 ≤ s.next) (numbered : AreNumbered s.next s.chi
 
   -- a call that is answered so, and leaves this, keeps the rules of the book
   pub keeps : (c : HostCall) (a : HostReply c) (t : Sim) → a ≡ answer s c → t ≡ after s c → IsFit c a → HostKeeps 16 (book_of s) c a (book_of t)
-  keeps c a t answered moved fit =
-      subst (λ (u : Sim). HostKeeps 16 (book_of s) c a (book_of u)) (sym moved)
-      (subst (λ (x : HostReply c). IsFit c x → HostKeeps 16 (book_of s) c x (book_of (after s c))) (sym answered) (kept c) fit)
+  keeps c a t answered moved fit = rw (answered, moved) (kept c (rw answered at fit))

@@ -1,7 +1,7 @@
 pub mod Always
+pub mod Courses
 pub mod Grants
 pub mod Performing
-pub mod Recording
 pub mod Reporting
 pub mod Running
 pub mod Sheets

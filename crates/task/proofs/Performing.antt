@@ -1,5 +1,5 @@
 -- How runs of interaction trees in a step are put together.
-use Rattle.std.proofs.Common.{◌≡◌, ℕ, ◌+◌, ◌≤◌, [], refl, ◌∙◌, slice_set, subst, arith, MutBor}
+use Rattle.std.proofs.Common.{◌≡◌, ℕ, ◌+◌, ◌≤◌, [], ◌∷◌, ◌++◌, refl, ◌∙◌, arith}
 use Rattle.host.specs.declared.process.Host as Host
 use Rattle.host.specs.declared.terminal.Terminal as Terminal
 use Rattle.host.specs.declared.journal.Record.{Record}
@@ -10,7 +10,7 @@ use Rattle.task.specs.declared.step.Step.{Step}
 use Rattle.task.specs.declared.task.Task.{Task}
 use Rattle.task.specs.Place.{Asked, world}
 use Rattle.task.specs.Performs.{Performs, Asks, Records, Same, place}
-use Rattle.task.proofs.Running as Running
+use Rattle.task.proofs.Running.{traces-bind}
 
 module _ {H T : Type 0} where
   same_then : {s m s' : Step H T} → Same s m → Same m s' → Same s s'
@@ -18,42 +18,37 @@ module _ {H T : Type 0} where
 
 module _ {H T : Type 0} {by_host : Host.Ghosts H} {by_terminal : Terminal.Ghosts T} where
   -- nothing was asked; only the task may have another value
-  pub still_at : {A : Type 0} {x y : A} {s : Step H T} {k : MutBor Task} → k.ghost_name ≡ s.task.ghost_name → x ≡ y → Performs by_host by_terminal 0 (done y) s x (record { task = k; host = s.host; terminal = s.terminal; sheet = s.sheet; used = s.used; time = s.time })
-  still_at {A} {x} {y} {s} n e =
+  pub still_at : {A : Type 0} {x y : A} {s : Step H T} {k : Task} → x ≡ y → Performs by_host by_terminal 0 (done y) s x (record s { task = record s.task { now = k } })
+  still_at e =
       record {
         ran = record { trace = []; traces = (refl, e, refl) };
         used = omega arith;
-        same = record { task = n; host = refl; terminal = refl; sheet = refl; time = refl };
+        same = record { task = refl; host = refl; terminal = refl; sheet = refl; time = refl };
       }
 
   -- the same run from a step whose task had another value
-  pub from_change : {A : Type 0} {t : Interaction A} {n : ℕ} {s s' : Step H T} {x : A} {k : MutBor Task} → k.ghost_name ≡ s.task.ghost_name → Performs by_host by_terminal n t (record { task = k; host = s.host; terminal = s.terminal; sheet = s.sheet; used = s.used; time = s.time }) x s' → Performs by_host by_terminal n t s x s'
-  from_change n u =
-      record {
-        ran = u.ran;
-        used = u.used;
-        same = record { task = u.same.task ∙ n; host = u.same.host; terminal = u.same.terminal; sheet = u.same.sheet; time = u.same.time };
-      }
+  pub from_change : {A : Type 0} {t : Interaction A} {n : ℕ} {s s' : Step H T} {x : A} {k : Task} → Performs by_host by_terminal n t (record s { task = record s.task { now = k } }) x s' → Performs by_host by_terminal n t s x s'
+  from_change u =
+      let same = u.same in
+      record { ran = u.ran; used = u.used; same = record { task = same.task; host = same.host; terminal = same.terminal; sheet = same.sheet; time = same.time } }
 
   -- the same run, with the tree at an equal value
   pub at_value : {A V : Type 0} (f : V → Interaction A) {v w : V} {n : ℕ} {s s' : Step H T} {x : A} → v ≡ w → Performs by_host by_terminal n (f v) s x s' → Performs by_host by_terminal n (f w) s x s'
-  at_value {A} {V} f {v} {w} {n} {s} {s'} {x} e k = subst (λ (z : V). Performs by_host by_terminal n (f z) s x s') e k
+  at_value f e k = rw (← e) k
 
-  -- one call that was answered, and then recorded
-  pub asked : (c : Call) {a : Reply c} {s m s' : Step H T} {r : Record} → Answered by_host by_terminal (world (place s)) c a (world (place m)) → Same s m → m.task.now ≡ s.task.now → m.sheet ≡ s.sheet → m.used ≡ s.used → Records r m s' → r ≡ record_of c a → Asks by_host by_terminal c s a s'
-  asked c {a} {s} {m} {s'} {r} d same t h u w e =
+  -- one call that was answered, and then recorded: it left h in the host and k in the terminal
+  pub asked : {c : Call} {a : Reply c} {s s' : Step H T} {h : H} {k : T} {r : Record} → Answered by_host by_terminal (world (place s)) c a (record { host = h; terminal = k }) → Records r (record s { host = record s.host { now = h }; terminal = record s.terminal { now = k } }) s' → r ≡ record_of c a → Asks by_host by_terminal c s a s'
+  asked {c} {a} {s} {s'} d w e =
       let answered : Answered by_host by_terminal (world (place s)) c a (world (place s')) = rw (w.host, w.terminal) d in
-      let sheet : s'.sheet.now ≡ slice_set s.sheet.now s.used (record_of c a) = rw (← e, ← h, ← u) w.sheet in
-      let here : Asked by_host by_terminal (place s) c a (place s') = (answered, sheet, omega (arith, w.used, u)) in
-      let recorded : Same m s' = record { task = rw w.task refl; host = rw w.host refl; terminal = rw w.terminal refl; sheet = w.same_sheet; time = w.time } in
+      let here : Asked by_host by_terminal (place s) c a (place s') = (answered, rw (← e) w.sheet, w.used) in
       record {
-        performs = record { ran = Running.once c a (place s) (place s') here; used = omega (arith, w.used, u); same = same_then same recorded };
-        task = rw w.task t;
+        performs = record { ran = record { trace = (c, a) ∷ []; traces = (a, place s', [], refl, here, (refl, refl, refl)) }; used = omega (arith, w.used); same = record { task = rw w.task refl; host = rw w.host refl; terminal = rw w.terminal refl; sheet = w.same_sheet; time = w.time } };
+        task = rw w.task refl;
       }
 
   -- one tree, and the one that follows from its value
   pub and_then : {A B : Type 0} (t : Interaction A) (f : A → Interaction B) {a b : ℕ} {s m s' : Step H T} {x : A} {y : B} → Performs by_host by_terminal a t s x m → Performs by_host by_terminal b (f x) m y s' → Performs by_host by_terminal (a + b) (bind t f) s y s'
-  and_then t f u v = record { ran = Running.and_then t f u.ran v.ran; used = omega (arith, u.used, v.used); same = same_then u.same v.same }
+  and_then t f {s = s} {m = m} {s' = s'} {x = x} {y = y} u v = record { ran = record { trace = u.ran.trace ++ v.ran.trace; traces = traces-bind (Asked by_host by_terminal) t f (place s) (place m) (place s') u.ran.trace v.ran.trace x y u.ran.traces v.ran.traces }; used = omega (arith, u.used, v.used); same = same_then u.same v.same }
 
   -- fewer calls than allowed
   pub at_most : {A : Type 0} {t : Interaction A} {a : ℕ} {s s' : Step H T} {x : A} (b : ℕ) → a ≤ b → Performs by_host by_terminal a t s x s' → Performs by_host by_terminal b t s x s'

@@ -1,11 +1,10 @@
-use Rattle.std.proofs.Common.{sym, ◌∙◌}
-use Rattle.hosts.proofs.Places.{found, missing}
+use Rattle.std.proofs.Common.{arith}
+use Rattle.std.proofs.lemmas.Bool.Decides.{nat_tests}
+use Rattle.hosts.proofs.Places.{life-place, life_past}
 use Rattle.hosts.proofs.roster.Roster.life.Goals as goal
 
 pub returns : goal.returns
-returns c =
-    let f = found c.args.number c.args.self.now.children.items c.in_ok-at.at c.index-deref-at.result (sym c.in_ok-at.ensures) in
-    rw c.deref.ensures.0 (sym f.has_life)
+returns c = grind (arith, nat_tests, life-place c.args.number c.args.self.now.children.items c.index-deref-at.result)
 
 pub returns-in_err-at : goal.returns-in_err-at
-returns-in_err-at c = c.from_residual.ensures ∙ sym (missing c.args.number c.args.self.now.children.items (sym c.in_err-at.ensures)).no_life
+returns-in_err-at c = grind (arith, nat_tests, life_past)

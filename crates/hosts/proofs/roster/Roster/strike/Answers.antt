@@ -1,19 +1,18 @@
-use Rattle.std.proofs.Common.{List, sym, ap, subst, ◌∙◌, ◌<◌, All}
-use Rattle.hosts.specs.declared.children.Child.{Child}
-use Rattle.hosts.proofs.Places.{found, missing, All-remove}
+use Rattle.std.proofs.Common.{ℕ, ◌<◌, All, List, arith}
+use Rattle.std.proofs.lemmas.Grind.{common_steps, pieces}
+use Rattle.std.specs.List.{remove}
+use Rattle.hosts.proofs.Places.{without-remove}
 use Rattle.hosts.proofs.roster.Roster.strike.Goals as goal
 
+-- what holds of all holds of those that are left
+All-remove : {X : Type 0} (P : X → Type 0) (xs : List X) (i : ℕ) → All P xs → All P (remove xs i)
+All-remove P xs i all = search (pieces, arith)
+
 pub invariant_of-self-clause-numbered : goal.invariant_of-self-clause-numbered
-invariant_of-self-clause-numbered c =
-    let r = c.args.self.now in
-    subst (λ (cs : List Child). All (λ x. x.number < r.next) cs) (sym c.remove.ensures.items) (All-remove (λ x. x.number < r.next) r.children.items c.in-Some.at r.numbered)
+invariant_of-self-clause-numbered c = rw c.remove.ensures.items (All-remove (λ x. x.number < c.args.self.now.next) c.args.self.now.children.items c.in-Some.at c.args.self.now.numbered)
 
 pub returns-in-Some : goal.returns-in-Some
-returns-in-Some c =
-    let f = found c.args.number c.args.self.now.children.items c.in-Some.at c.remove.result (sym c.in-Some.ensures) in
-    ap (λ (cs : List Child). (cs, c.args.self.now.next)) (c.remove.ensures.items ∙ sym f.removed)
+returns-in-Some c = grind (arith, common_steps, without-remove)
 
 pub returns-in_default : goal.returns-in_default
-returns-in_default c =
-    let m = missing c.args.number c.args.self.now.children.items (sym c.in_default.ensures) in
-    ap (λ (cs : List Child). (cs, c.args.self.now.next)) (sym m.removed)
+returns-in_default c = grind (arith, common_steps, without-remove)

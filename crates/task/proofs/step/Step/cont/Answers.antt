@@ -1,11 +1,6 @@
-use Rattle.std.proofs.Common.{refl, rules}
-use Rattle.host.specs.Calls as Calls
-use Rattle.host.specs.Journal.{nothing}
+use Rattle.std.proofs.Common.{refl, arith}
 use Rattle.task.proofs.Performing.{asked}
-use Rattle.task.proofs.Recording.{made_of}
 use Rattle.task.proofs.step.Step.cont.Goals as goal
 
 pub returns : goal.returns
-returns g c =
-    let answer = made_of nothing c.cont-reply.result c.map_or_else-answer.result c.map_or_else-answer.ensures (λ v h. search rules) (λ e h. search rules) in
-    asked (Calls.to_host (Calls.cont c.args.child)) (c.cont-reply.ensures, refl) (record { task = refl; host = refl; terminal = refl; sheet = refl; time = refl }) refl refl refl c.record.ensures (rw answer refl)
+returns g c = asked (c.cont-reply.ensures, refl) c.record.ensures (grind arith)

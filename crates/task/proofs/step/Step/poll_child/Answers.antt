@@ -1,4 +1,4 @@
-use Rattle.std.proofs.Common.{ℕ, Ok, Err, sym, refl}
+use Rattle.std.proofs.Common.{ℕ, Ok, Err, sym}
 use Rattle.host.specs.declared.state.CommandState.{CommandState}
 use Rattle.host.specs.Interaction.{call}
 use Rattle.task.specs.declared.task.Task.{Task}
@@ -24,4 +24,4 @@ returns-in-Err g c =
     let tells = λ (k : Task). Tree.told (task_view k).settings.handler (Err c.in-Err.fault) in
     at_value (λ (state : CommandState). Tree.poll_in state s.time (task_of s)) (sym c.in-Running.is)
     (and_then (call _) _ c.in-Err.ensures.performs
-    (and_then (tells s.task.now) _ (at_value tells c.poll.ensures.task c.report.ensures.told) (still_at refl (rw (c.report.ensures.task, c.poll.ensures.task) refl))))
+    (and_then (tells s.task.now) _ (at_value tells c.poll.ensures.task c.report.ensures.told) (still_at (rw (c.report.ensures.task, c.poll.ensures.task)))))

@@ -4,4 +4,4 @@ use Rattle.task.proofs.Performing.{still_at, and_then}
 use Rattle.task.proofs.step.Step.report.Goals as goal
 
 pub returns-in-Some-Err-clause-told : goal.returns-in-Some-Err-clause-told
-returns-in-Some-Err-clause-told g c = simp (c.in-Some-Err.is-0, c.in-Some-Err.is-1) (and_then (call _) _ c.tell.ensures.performs (still_at refl refl))
+returns-in-Some-Err-clause-told g c = simp (c.in-Some-Err.is-0, c.in-Some-Err.is-1) (and_then (call _) _ c.tell.ensures.performs (still_at refl))

@@ -1,11 +1,6 @@
-use Rattle.std.proofs.Common.{refl, rules}
-use Rattle.host.specs.Calls as Calls
-use Rattle.host.specs.declared.journal.Answer.TheVariants.{Child}
+use Rattle.std.proofs.Common.{refl, arith}
 use Rattle.task.proofs.Performing.{asked}
-use Rattle.task.proofs.Recording.{made_of}
 use Rattle.task.proofs.step.Step.spawn.Goals as goal
 
 pub returns : goal.returns
-returns g c =
-    let answer = made_of Child c.spawn-reply.result c.map_or_else-answer.result c.map_or_else-answer.ensures (λ v h. search rules) (λ e h. search rules) in
-    asked (Calls.to_host (Calls.spawn c.args.program c.args.options c.args.way c.args.time)) (c.spawn-reply.ensures, refl) (record { task = refl; host = refl; terminal = refl; sheet = refl; time = refl }) refl refl refl c.record.ensures (rw (c.from.ensures, answer) refl)
+returns g c = asked (c.spawn-reply.ensures, refl) c.record.ensures (grind arith)

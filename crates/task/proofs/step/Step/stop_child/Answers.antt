@@ -1,4 +1,4 @@
-use Rattle.std.proofs.Common.{sym, refl}
+use Rattle.std.proofs.Common.{sym}
 use Rattle.host.specs.declared.state.CommandState.{CommandState}
 use Rattle.task.specs.Performs.{task_of}
 use Rattle.task.specs.Task as Tree
@@ -12,4 +12,4 @@ returns g c =
     let part = Tree.end_by_force c.in-Running.child c.in-Running.started s.time (task_of s) in
     at_value (λ (state : CommandState). Tree.stop_in state s.time (task_of s)) (sym c.in-Running.is)
     (and_then (Tree.reported part) _ (telling part c.end_by_force-forced.ensures c.report.ensures.told)
-    (still_at refl (rw (c.report.ensures.task, c.into.ensures) refl)))
+    (still_at (rw (c.report.ensures.task, c.into.ensures))))
