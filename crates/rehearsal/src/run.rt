@@ -23,6 +23,9 @@ use supervisor::sends::Send;
 
 const PROGRAM: u8 = 1;
 
+// A step needs 8 places.
+const PLACES: usize = 8;
+
 // What a granted line answers, and how many records its step wrote: their number, as a step answers it.
 #[derive(Clone, Copy, Default)]
 pub struct Granted {
@@ -44,7 +47,7 @@ pub struct Rehearsal {
     job: Job,
     host: SimulatedHost,
     terminal: AbsentTerminal,
-    sheet: [Record; LEAST_PLACES],
+    sheet: [Record; PLACES],
 }
 
 // No ticket and no child has a number of more than 32 bits.
@@ -83,7 +86,7 @@ impl Rehearsal {
             job,
             host,
             terminal: AbsentTerminal::new(),
-            sheet: [Record::BLANK; LEAST_PLACES],
+            sheet: [Record::BLANK; PLACES],
         })
     }
 
