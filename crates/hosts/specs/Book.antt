@@ -1,5 +1,5 @@
 -- The book of the simulated host keeps its rules.
-use Rattle.std.specs.Prelude.{◌≡◌, ℕ, suc, ◌^◌, ◌<◌, ◌≤◌, Bool, true, false, if◌then◌else◌, List, [], ◌∷◌, ◌++◌, length, is_some, Some, None, Ok, Err, Option, Result, nat_le, refl, ⊤}
+use Rattle.std.specs.Prelude.{◌≡◌, ℕ, suc, ◌^◌, ◌<◌, ◌≤◌, Bool, true, false, if◌then◌else◌, List, [], ◌∷◌, ◌++◌, length, is_some, Some, None, Ok, Err, Option, Result, ◌==◌, nat_le, refl, ⊤}
 use Rattle.std.proofs.Common.{ap, ◌∙◌, arith}
 use Rattle.std.proofs.lemmas.Bool.Decides.{nat_tests}
 use Rattle.std.proofs.lemmas.List.{map-append, length-map}
@@ -8,13 +8,15 @@ use Rattle.host.specs.Fault.{fault}
 use Rattle.host.specs.declared.fault.Fault.{Fault}
 use Rattle.host.specs.declared.command.SpawnOptions.{SpawnOptions}
 use Rattle.host.specs.Calls.{HostCall, spawn, poll, wait, kill, signal, cont, let_go, hook, routine, tell, HostReply}
-use Rattle.host.specs.Books.{HostFits, HostKeeps, IsFault, MayFault, next_count, on_roster, roster_after, spawns_after, strike}
+use Rattle.host.specs.Books.{HostFits, HostKeeps, IsEnd, IsFault, MayFault, next_count, on_roster, roster_after, spawns_after, strike}
+use Rattle.hosts.specs.declared.children.End.{End}
+use Rattle.hosts.specs.declared.children.End.TheVariants.{Exited, Signalled}
 use Rattle.hosts.specs.declared.children.Life.{Life}
 use Rattle.hosts.specs.declared.children.Life.TheVariants.{Going, Ended}
 use Rattle.hosts.specs.declared.children.Child.{Child}
-use Rattle.hosts.specs.Children.{child, numbers, life_of, without, with_life, reported, has_room, AreNumbered}
+use Rattle.hosts.specs.Children.{child, numbers, life_of, without, with_life, reported, has_room, AreFit, AreNumbered, is_fit, process_end}
 use Rattle.hosts.specs.Signals.{delivered}
-use Rattle.hosts.specs.Simulated.{IsFit, Sim, book_of, answer, after, children_after, poll_answer, wait_answer, signal_answer, signalled}
+use Rattle.hosts.specs.Simulated.{Sim, book_of, answer, after, children_after, poll_answer, wait_answer, signal_answer, signalled}
 
 -- THE ROSTER OF A LIST OF CHILDREN
 
@@ -38,13 +40,25 @@ next_is_off next (c ∷ cs) h =
     let below : c.number < next = h 0 c (omega arith) in
     grind (arith, nat_tests, below, next_is_off next cs (λ k d l. h (suc k) d (omega arith)))
 
+-- who is there and has ended did so as a process may
+ends : (n : ℕ) (cs : List Child) (end : End) → AreFit cs → life_of n cs ≡ Some (Ended end) → is_fit (Ended end) ≡ true
+ends n [] end h e = absurd (grind arith)
+ends n (c ∷ cs) end h e =
+    let first : is_fit c.life ≡ true = h 0 c (omega arith) in
+    let rest : AreFit cs = λ k d l. h (suc k) d (omega arith) in
+    grind (arith, nat_tests, first, ends n cs end rest)
+
+end_fits : (end : End) → is_fit (Ended end) ≡ true → IsEnd (process_end end)
+end_fits (Exited code) h = grind (arith, nat_tests)
+end_fits (Signalled s) h = grind (arith, nat_tests)
+
 -- as many numbers as children
 pub bounded : (cs : List Child) → length cs ≤ 16 → length (numbers cs) ≤ 16
 bounded cs few = simp length-map few
 
 -- THE RULES
 
-module _ (s : Sim) (begun : 100 ≤ s.next) (numbered : AreNumbered s.next s.children) where
+module _ (s : Sim) (begun : 100 ≤ s.next) (numbered : AreNumbered s.next s.children) (fit : AreFit s.children) where
   -- its children, and their numbers
   abbrev cs : List Child
   cs = s.children
@@ -74,15 +88,15 @@ module _ (s : Sim) (begun : 100 ≤ s.next) (numbered : AreNumbered s.next s.chi
       (map-append _ cs (child s.next Going ∷ []), (next_is_off s.next cs numbered, omega arith, room.1, omega (arith, room.0, length-map cs (λ c. c.number))))
   spawned program options way time false e = (refl, ((omega arith, omega arith), λ _. refl))
 
-  polled : (n : ℕ) (o : Option Life) → life_of n cs ≡ o → IsFit (poll n) (poll_answer o) → Rules (poll n) (poll_answer o) (reported n o cs)
-  polled n None e fit = (refl, off n)
-  polled n (Some (Ended end)) e fit = (numbers-without n cs, (on n (Ended end) e, fit))
-  polled n (Some life) e fit = (refl, on n life e)
+  polled : (n : ℕ) (o : Option Life) → life_of n cs ≡ o → Rules (poll n) (poll_answer o) (reported n o cs)
+  polled n None e = (refl, off n)
+  polled n (Some (Ended end)) e = (numbers-without n cs, (on n (Ended end) e, end_fits end (ends n cs end fit e)))
+  polled n (Some life) e = (refl, on n life e)
 
-  waited : (n : ℕ) (o : Option Life) → life_of n cs ≡ o → IsFit (wait n) (wait_answer o) → Rules (wait n) (wait_answer o) (reported n o cs)
-  waited n None e fit = (refl, off n)
-  waited n (Some (Ended end)) e fit = (numbers-without n cs, (on n (Ended end) e, fit))
-  waited n (Some life) e fit = (refl, on_faults n 4 life e (omega arith, omega arith))
+  waited : (n : ℕ) (o : Option Life) → life_of n cs ≡ o → Rules (wait n) (wait_answer o) (reported n o cs)
+  waited n None e = (refl, off n)
+  waited n (Some (Ended end)) e = (numbers-without n cs, (on n (Ended end) e, end_fits end (ends n cs end fit e)))
+  waited n (Some life) e = (refl, on_faults n 4 life e (omega arith, omega arith))
 
   -- what holds of a fit fault, and of Ok where the child is on the roster, holds of the answer to a signal
   sent : (P : Result ⊤ Fault → Type 0) → (n number : ℕ) (o : Option Life) → life_of n cs ≡ o → ((f : Fault) → MayFault n roster f → P (Err f)) → (on_roster n roster ≡ true → P (Ok tt)) → P (signal_answer number o)
@@ -93,23 +107,24 @@ module _ (s : Sim) (begun : 100 ≤ s.next) (numbered : AreNumbered s.next s.chi
   same_roster n number None = refl
   same_roster n number (Some life) = grind (arith, numbers-with_life n (delivered s.mask number life) cs)
 
-  rules : (c : HostCall) → IsFit c (answer s c) → Rules c (answer s c) (children_after s c)
-  rules (spawn program options way time) fit = spawned program options way time _ refl
-  rules (poll n) fit = polled n _ refl fit
-  rules (wait n) fit = waited n _ refl fit
-  rules (kill n) fit = (same_roster n 9 _, sent (HostFits 16 roster (kill n)) n 9 _ refl (λ _ h. h) (λ h. h))
-  rules (signal n number) fit = (same_roster n number _, sent (HostFits 16 roster (signal n number)) n number _ refl (λ _ h. h) (λ h. h))
-  rules (cont n) fit = (same_roster n 18 _, sent (HostFits 16 roster (cont n)) n 18 _ refl (λ _ h. h) (λ h. h))
-  rules (let_go n) fit = (numbers-without n cs, tt)
-  rules (hook number state previous) fit = (refl, tt)
-  rules (routine number state previous) fit = (refl, tt)
-  rules (tell handler code) fit = (refl, tt)
+  rules : (c : HostCall) → Rules c (answer s c) (children_after s c)
+  rules (spawn program options way time) = spawned program options way time _ refl
+  rules (poll n) = polled n _ refl
+  rules (wait n) = waited n _ refl
+  rules (kill n) = (same_roster n 9 _, sent (HostFits 16 roster (kill n)) n 9 _ refl (λ _ h. h) (λ h. h))
+  rules (signal n number) = (same_roster n number _, sent (HostFits 16 roster (signal n number)) n number _ refl (λ _ h. h) (λ h. h))
+  rules (cont n) = (same_roster n 18 _, sent (HostFits 16 roster (cont n)) n 18 _ refl (λ _ h. h) (λ h. h))
+  rules (let_go n) = (numbers-without n cs, tt)
+  rules (hook number state previous) = (refl, tt)
+  rules (routine number state previous) = (refl, tt)
+  rules (tell handler code) = (refl, tt)
 
-  kept : (c : HostCall) → IsFit c (answer s c) → HostKeeps 16 (book_of s) c (answer s c) (book_of (after s c))
-  kept c fit =
-      let r = rules c fit in
+  -- each call, answered and moved so, keeps the rules of the book
+  pub keeps : (c : HostCall) → HostKeeps 16 (book_of s) c (answer s c) (book_of (after s c))
+  keeps c =
+      let r = rules c in
       record { moved = ap (λ (ns : List ℕ). record { roster = ns; served = next_count s.served; spawns = spawns_after s.spawns c }) r.0; fits = r.1 }
 
-  -- a call that is answered so, and leaves this, keeps the rules of the book
-  pub keeps : (c : HostCall) (a : HostReply c) (t : Sim) → a ≡ answer s c → t ≡ after s c → IsFit c a → HostKeeps 16 (book_of s) c a (book_of t)
-  keeps c a t answered moved fit = rw (answered, moved) (kept c (rw answered at fit))
+  -- said of the answer and of what the call left
+  pub keeps_so : (c : HostCall) (a : HostReply c) (t : Sim) → a ≡ answer s c → t ≡ after s c → HostKeeps 16 (book_of s) c a (book_of t)
+  keeps_so c a t answered moved = rw (answered, moved) (keeps c)

@@ -1,5 +1,5 @@
 -- The children of the simulated host: a list, in the order of their spawns.
-use Rattle.std.specs.Prelude.{ℕ, ◌^◌, ◌<◌, Bool, true, false, if◌then◌else◌, ◌&&◌, List, [], ◌∷◌, map, length, All, Some, None, Option, ◌==◌, nat_lt}
+use Rattle.std.specs.Prelude.{◌≡◌, ℕ, ◌^◌, ◌<◌, Bool, true, false, if◌then◌else◌, ◌&&◌, List, [], ◌∷◌, map, length, All, Some, None, Option, ◌==◌, nat_le, nat_lt}
 use Rattle.host.specs.declared.state.ProcessEnd.{ProcessEnd}
 use Rattle.host.specs.declared.state.ProcessEnd.TheVariants as process
 use Rattle.hosts.specs.declared.children.End.{End}
@@ -61,3 +61,12 @@ AreNumbered next cs = All (λ c. c.number < next) cs
 abbrev pub process_end : End → ProcessEnd
 process_end (Exited code) = process.Exited code
 process_end (Signalled s) = process.Signalled s
+
+-- a child that ended did so as a process may: with an exit code, or by a signal from 1 to 31
+abbrev pub is_fit : Life → Bool
+is_fit (Ended (Exited code)) = nat_le code 255
+is_fit (Ended (Signalled s)) = nat_le 1 s && nat_le s 31
+is_fit life = true
+
+abbrev pub AreFit : List Child → Type 0
+AreFit cs = All (λ c. is_fit c.life ≡ true) cs

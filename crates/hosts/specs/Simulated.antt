@@ -5,7 +5,7 @@ use Rattle.host.specs.declared.fault.Fault.{Fault}
 use Rattle.host.specs.declared.command.SpawnOptions.{SpawnOptions}
 use Rattle.host.specs.declared.state.ProcessEnd.{ProcessEnd}
 use Rattle.host.specs.Calls.{HostCall, spawn, poll, wait, kill, signal, cont, let_go, hook, routine, tell, HostReply}
-use Rattle.host.specs.Books.{HostBook, IsEnd, next_count, spawns_after}
+use Rattle.host.specs.Books.{HostBook, next_count, spawns_after}
 use Rattle.hosts.specs.declared.children.Life.{Life}
 use Rattle.hosts.specs.declared.children.Life.TheVariants.{Going, Stopped, Ended}
 use Rattle.hosts.specs.declared.children.Child.{Child}
@@ -70,12 +70,6 @@ answer s (hook number state previous) = Ok s.options
 answer s (routine number state previous) = Ok tt
 answer s (tell handler code) = Ok tt
 
--- an end that is answered is one that a process may have
-abbrev pub IsFit : (c : HostCall) → HostReply c → Type 0
-IsFit (poll n) (Ok (Some end)) = IsEnd end
-IsFit (wait n) (Ok end) = IsEnd end
-IsFit c a = ⊤
-
 -- WHAT A CALL LEAVES
 
 -- the children once a signal was sent to the child n, which has this life
@@ -111,7 +105,7 @@ after s c = record { children = children_after s c; next = next_after s c; mask 
 
 -- a call of a host was answered so, and left the host so
 abbrev pub Did : SimulatedHost → (c : HostCall) → HostReply c → SimulatedHost → Type 0
-Did h c a k = (a ≡ answer (view h) c) × (view k ≡ after (view h) c) × IsFit c a
+Did h c a k = (a ≡ answer (view h) c) × (view k ≡ after (view h) c)
 
 -- WHAT A REHEARSAL MAKES HAPPEN
 

@@ -1,7 +1,7 @@
 // The children of the simulated host, and how they end.
-ghost use Rattle.std.specs.Prelude.{◌≡◌};
+ghost use Rattle.std.specs.Prelude.{◌≡◌, true};
 ghost use Rattle.host.specs.Books.{IsEnd};
-ghost use Rattle.hosts.specs.Children.{process_end};
+ghost use Rattle.hosts.specs.Children.{is_fit, process_end};
 
 use crate::signals::Signal;
 use host::state::ProcessEnd;
@@ -32,6 +32,32 @@ pub enum Life {
     Going,
     Stopped,
     Ended(End),
+}
+
+impl End {
+    // The same end, of which a proof then knows that a process may have it.
+    fn known(self) -> End
+        ensures is { result ≡ self }
+        ensures fit { is_fit (Life.Ended result) ≡ true }
+    {
+        match self {
+            End::Exited(_) => self,
+            End::Signalled(signal) => End::Signalled(signal.known()),
+        }
+    }
+}
+
+impl Life {
+    // The same life, of which a proof then knows that its end is fit.
+    pub(crate) fn known(self) -> Life
+        ensures is { result ≡ self }
+        ensures fit { is_fit result ≡ true }
+    {
+        match self {
+            Life::Ended(end) => Life::Ended(end.known()),
+            Life::Going | Life::Stopped => self,
+        }
+    }
 }
 
 // A default one fills each place of a roster that no child has.

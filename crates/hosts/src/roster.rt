@@ -1,6 +1,6 @@
 // The roster of the simulated host.
 ghost use Rattle.std.specs.Prelude.{◌≡◌, ◌^◌, ◌≤◌, length};
-ghost use Rattle.hosts.specs.Children.{AreNumbered};
+ghost use Rattle.hosts.specs.Children.{AreFit, AreNumbered};
 
 use crate::children::{Child, Life};
 use arrayvec::ArrayVec;
@@ -20,6 +20,7 @@ pub struct Roster {
     ghost begun: { 100 ≤ next },
     ghost within: { next ≤ 2 ^ 31 },
     ghost numbered: { AreNumbered next children.items },
+    ghost fit: { AreFit children.items },
 }
 
 impl Roster {
@@ -80,7 +81,7 @@ impl Roster {
         ensures { held self.new ≡ (with_life number life (items self.old), self.old.next) }
     {
         if let Some(at) = self.place(number) {
-            self.children[at].life = life;
+            self.children[at].life = life.known();
         }
     }
 

@@ -59,6 +59,17 @@ impl Signal {
         self.number
     }
 
+    // The same signal, of which a proof then knows the range.
+    pub(crate) fn known(self) -> Signal
+        ensures is { result ≡ self }
+        ensures low { 1 ≤ result }
+        ensures high { result ≤ 31 }
+    {
+        Signal {
+            number: self.number,
+        }
+    }
+
     fn has_bit(self, mask: u32) -> bool
         ensures { result ≡ bit mask self }
     {

@@ -87,7 +87,7 @@ impl Host for SimulatedHost {
 
     ghost did = { Did };
 
-    ghost keeps = { λ h c a k d. Book.keeps (view h) h.roster.begun h.roster.numbered c a (view k) d.0 d.1 d.2 };
+    ghost keeps = { λ h c a k d. Book.keeps_so (view h) h.roster.begun h.roster.numbered h.roster.fit c a (view k) d.0 d.1 };
 
     ghost bounded = { λ h. Book.bounded (items h.roster) h.roster.few };
 
