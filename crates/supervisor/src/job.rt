@@ -1,7 +1,7 @@
 // A job, and what holds of every job.
 ghost use Rattle.std.specs.Prelude.{◌≡◌, ◌^◌, ◌≤◌, true, false, []};
 ghost use Rattle.task.specs.Task.{Granted};
-ghost use Rattle.supervisor.specs.Sound.{InOrder};
+ghost use Rattle.supervisor.specs.Sound.{Full, InOrder};
 ghost use Rattle.task.specs.View.{task_view};
 ghost use Rattle.supervisor.specs.View.{mailbox_view};
 
@@ -17,6 +17,7 @@ pub struct Job {
     // The time of the last accepted step.
     clock: u64,
     ghost in_order: { closed ≡ false → InOrder [] (mailbox_view mailbox) },
+    ghost full: { Full (mailbox_view mailbox) },
     ghost granted: { Granted (task_view task) },
     ghost timely: { clock ≤ 2 ^ 62 },
 }

@@ -63,6 +63,7 @@ impl Job {
             message.control,
             time,
         ) else {
+            // `may_step` has seen to the sheet, and `control` checks it again, since it takes every sheet.
             unreachable()
         };
         self.mailbox.settle(outcome, message.ticket);
@@ -87,6 +88,7 @@ impl Job {
         self.clock = time;
         let Some((outcome, records)) = conduct::poll(&mut self.task, host, terminal, sheet, time)
         else {
+            // As in a control step.
             unreachable()
         };
         self.mailbox.after_poll(outcome);

@@ -1,5 +1,6 @@
 -- A child step keeps what holds of every job, and is accepted.
-use Rattle.std.proofs.Common.{sym}
+use Rattle.std.proofs.Common.{sym, arith}
+use Rattle.std.proofs.lemmas.Bool.Decides.{nat_tests}
 use Rattle.supervisor.specs.declared.answers.StepKind.TheVariants.{Child}
 use Rattle.supervisor.specs.Job.{watched}
 use Rattle.supervisor.specs.Steps.{job_view}
@@ -11,6 +12,9 @@ use Rattle.supervisor.proofs.job.Job.child_step.Goals as goal
 
 pub invariant_of-self-clause-in_order : goal.invariant_of-self-clause-in_order
 invariant_of-self-clause-in_order g c e = rw c.after_poll.ensures (after_poll_in c.in-Some.outcome _ (c.args.self.now.in_order e))
+
+pub invariant_of-self-clause-full : goal.invariant_of-self-clause-full
+invariant_of-self-clause-full g c = (invariant_of-self-clause-in_order g c (grind (arith, nat_tests))).full
 
 pub returns : goal.returns
 returns g c =

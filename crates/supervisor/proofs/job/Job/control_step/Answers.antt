@@ -23,6 +23,9 @@ pub invariant_of-self-2-clause-in_order : goal.invariant_of-self-2-clause-in_ord
 invariant_of-self-2-clause-in_order g c e =
     rw c.settle.ensures (settle_in c.in-Some-control.outcome _ _ (take_in _ c.in-Some.message _ (c.args.self.now.in_order e) c.in-Some.ensures.taken))
 
+pub invariant_of-self-2-clause-full : goal.invariant_of-self-2-clause-full
+invariant_of-self-2-clause-full g c = (invariant_of-self-2-clause-in_order g c (grind (arith, nat_tests))).full
+
 pub invariant_of-self-2-clause-granted : goal.invariant_of-self-2-clause-granted
 invariant_of-self-2-clause-granted g c =
     let j = c.args.self.now in
