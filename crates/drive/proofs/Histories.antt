@@ -39,12 +39,12 @@ written_more rs xs i y e l = grind (arith, common_steps, drop_more xs i (Ok 0) l
 
 module _ {H T : Type 0} (by_host : Host.Ghosts H) (by_terminal : Terminal.Ghosts T) where
   -- a call tries at most one start, and takes at most one order
-  makes_few : (c : Call) (a : Moment H T) (d : Done) (b : Moment H T) → Makes by_host by_terminal c a d b → (d.tried ≤ 1) × (d.ordered ≤ 1)
+  makes_few : (c : Call) (a : Moment H T) (d : Done) (b : Moment H T) → Makes by_host by_terminal c a d b → (d.tally.tried ≤ 1) × (d.tally.ordered ≤ 1)
   makes_few (Step kind time) a d b r = rw r.does (step_few by_host by_terminal (tree_of kind) time a b r.answer r.step)
   makes_few c a d b r = (omega (arith, r.tried), omega (arith, r.ordered))
 
   -- and the host's count of spawns grows by the starts tried
-  makes-spawns : (c : Call) (a : Moment H T) (d : Done) (b : Moment H T) → Makes by_host by_terminal c a d b → (by_host.book b.host).spawns % 2 ^ 64 ≡ ((by_host.book a.host).spawns + d.tried) % 2 ^ 64
+  makes-spawns : (c : Call) (a : Moment H T) (d : Done) (b : Moment H T) → Makes by_host by_terminal c a d b → (by_host.book b.host).spawns % 2 ^ 64 ≡ ((by_host.book a.host).spawns + d.tally.tried) % 2 ^ 64
   makes-spawns (Step kind time) a d b r = rw r.does (step-spawns by_host by_terminal (tree_of kind) time a b r.answer r.step)
   makes-spawns c a d b r = rw (r.host, r.tried) (omega arith)
 
@@ -65,16 +65,16 @@ module _ {H T : Type 0} (by_host : Host.Ghosts H) (by_terminal : Terminal.Ghosts
   pub at_first : (calls : List Call) (a : Moment H T) (xs : List (Result ℕ Refusal)) → SoFar calls 0 a xs 0 0 a xs
   at_first calls a xs = record { turns = []; linked = (refl, refl); answers = refl; tried_is = refl; ordered_is = refl; tried_few = omega arith; ordered_few = omega arith }
 
-  pub one_more : {calls : List Call} {i : ℕ} {a : Moment H T} {xs : List (Result ℕ Refusal)} {m n : ℕ} {b : Moment H T} {ys : List (Result ℕ Refusal)} (z : Call) (t : Turn (Moment H T)) → i < length calls → i < length xs → SoFar calls i a xs m n b ys → Makes by_host by_terminal (get_or calls i z) b t.did t.at → SoFar calls (i + 1) a xs (m + t.did.tried) (n + t.did.ordered) t.at (set ys i t.did.answer)
+  pub one_more : {calls : List Call} {i : ℕ} {a : Moment H T} {xs : List (Result ℕ Refusal)} {m n : ℕ} {b : Moment H T} {ys : List (Result ℕ Refusal)} (z : Call) (t : Turn (Moment H T)) → i < length calls → i < length xs → SoFar calls i a xs m n b ys → Makes by_host by_terminal (get_or calls i z) b t.did t.at → SoFar calls (i + 1) a xs (m + t.did.tally.tried) (n + t.did.tally.ordered) t.at (set ys i t.did.answer)
   one_more {calls} {i} {a} {xs} {m} {n} {b} {ys} z t l k h r =
-      let few : (t.did.tried ≤ 1) × (t.did.ordered ≤ 1) = makes_few (get_or calls i z) b t.did t.at r in
+      let few : (t.did.tally.tried ≤ 1) × (t.did.tally.ordered ≤ 1) = makes_few (get_or calls i z) b t.did t.at r in
       let count : length (answers_of h.turns) ≡ i = omega (arith, linked-length (Makes by_host by_terminal) (take i calls) a h.turns b h.linked, length-take i calls) in
       record {
         turns = h.turns ++ t ∷ [];
         linked = rw (take_more calls i z l) (linked_more (Makes by_host by_terminal) (take i calls) a h.turns b (get_or calls i z) t h.linked r);
         answers = cc (h.answers, written_more (answers_of h.turns) xs i t.did.answer count k, answers_more t h.turns);
-        tried_is = grind (arith, common_steps, is_sum_by (tried_in {M = Moment H T}) (λ u. u.did.tried) refl (λ _ _. refl));
-        ordered_is = grind (arith, common_steps, is_sum_by (ordered_in {M = Moment H T}) (λ u. u.did.ordered) refl (λ _ _. refl));
+        tried_is = grind (arith, common_steps, is_sum_by (tried_in {M = Moment H T}) (λ u. u.did.tally.tried) refl (λ _ _. refl));
+        ordered_is = grind (arith, common_steps, is_sum_by (ordered_in {M = Moment H T}) (λ u. u.did.tally.ordered) refl (λ _ _. refl));
         tried_few = omega (arith, h.tried_few, few.0);
         ordered_few = omega (arith, h.ordered_few, few.1);
       }

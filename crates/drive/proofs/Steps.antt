@@ -22,11 +22,11 @@ module _ {H T : Type 0} (by_host : Host.Ghosts H) (by_terminal : Terminal.Ghosts
       cc (take_at (journal p) (drop (length p) a.sheet) (length p) (journal-length p), journal-spawns p, h.1.conducts.count, h.1.conducts.sheet)
 
   -- at most one of each
-  pub step_few : (r : Result Stepped Refusal) → Steps by_host by_terminal tree time a r b → ((step_done r b.sheet).tried ≤ 1) × ((step_done r b.sheet).ordered ≤ 1)
+  pub step_few : (r : Result Stepped Refusal) → Steps by_host by_terminal tree time a r b → ((step_done r b.sheet).tally.tried ≤ 1) × ((step_done r b.sheet).tally.ordered ≤ 1)
   step_few (Ok s) h = grind (arith, tried-spawns s h, h.1.starts)
   step_few (Err r) h = grind arith
 
   -- and the host's count of spawns grew by the starts tried
-  pub step-spawns : (r : Result Stepped Refusal) → Steps by_host by_terminal tree time a r b → (by_host.book b.host).spawns % 2 ^ 64 ≡ ((by_host.book a.host).spawns + (step_done r b.sheet).tried) % 2 ^ 64
+  pub step-spawns : (r : Result Stepped Refusal) → Steps by_host by_terminal tree time a r b → (by_host.book b.host).spawns % 2 ^ 64 ≡ ((by_host.book a.host).spawns + (step_done r b.sheet).tally.tried) % 2 ^ 64
   step-spawns (Ok s) h = grind (arith, h.1.host_book, along_spawns (by_host.book a.host) h.1.conducts.trace, tried-spawns s h)
   step-spawns (Err r) h = grind arith

@@ -1,5 +1,6 @@
 -- What a call of a run did, by its answer and the sheet after it.
 use Rattle.std.specs.Prelude.{ℕ, ◌+◌, Bool, true, false, if◌then◌else◌, List, [], ◌∷◌, take, Ok, Err, Result, ⊤}
+use Rattle.std.specs.Int.{from_bool}
 use Rattle.host.specs.declared.journal.CallKind.{CallKind}
 use Rattle.host.specs.declared.journal.CallKind.TheVariants.{Spawn}
 use Rattle.host.specs.declared.journal.Record.{Record}
@@ -19,13 +20,10 @@ spawn_records [] = 0
 spawn_records (r ∷ rs) = (if is_spawn r.call then 1 else 0) + spawn_records rs
 
 abbrev pub done : Result ℕ Refusal → ℕ → ℕ → Done
-done answer tried ordered = record { answer = answer; tried = tried; ordered = ordered }
-
-abbrev pub truth : Bool → ℕ
-truth b = if b then 1 else 0
+done answer tried ordered = record { answer = answer; tally = record { tried = tried; ordered = ordered } }
 
 abbrev pub look_value : Result Bool Refusal → Result ℕ Refusal
-look_value (Ok b) = Ok (truth b)
+look_value (Ok b) = Ok (from_bool b)
 look_value (Err r) = Err r
 
 abbrev pub collect_value : Result ⊤ Refusal → Result ℕ Refusal
@@ -34,5 +32,5 @@ collect_value (Err r) = Err r
 
 -- what a step did, by its answer and the sheet after it
 abbrev pub step_done : Result Stepped Refusal → List Record → Done
-step_done (Ok s) sheet = done (Ok (progress_number s.progress)) (spawn_records (take s.records sheet)) (truth s.ordered)
+step_done (Ok s) sheet = done (Ok (progress_number s.progress)) (spawn_records (take s.records sheet)) (from_bool s.ordered)
 step_done (Err r) sheet = done (Err r) 0 0

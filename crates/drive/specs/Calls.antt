@@ -1,11 +1,10 @@
 -- What one call of a run does to a job, its host, its terminal and the sheet.
-use Rattle.std.specs.Prelude.{◌≡◌, ℕ, Result}
+use Rattle.std.specs.Prelude.{◌≡◌, ℕ, Result, OnErr}
 use Rattle.host.specs.declared.process.Host as Host
 use Rattle.host.specs.declared.terminal.Terminal as Terminal
 use Rattle.host.specs.Interaction.{Interaction}
 use Rattle.supervisor.specs.declared.errors.Refusal.{Refusal}
 use Rattle.supervisor.specs.declared.answers.Stepped.{Stepped}
-use Rattle.supervisor.specs.Errors.{Refused}
 use Rattle.supervisor.specs.Job.{JobView, Stepping, send, look, collect, tree_of}
 use Rattle.supervisor.specs.Sends.{priority_of, control_of}
 use Rattle.supervisor.specs.Steps.{Moment, job_view, Steps}
@@ -18,12 +17,12 @@ module _ {H T : Type 0} (by_host : Host.Ghosts H) (by_terminal : Terminal.Ghosts
   -- a call that asks nothing outside: the job and the answer are those of f; where it is refused nothing changed
   pub record Quiet (f : JobView → JobView × Result ℕ Refusal) (a : Moment H T) (d : Done) (b : Moment H T) : Type 0 where
     pub result : (job_view b.job, d.answer) ≡ f (job_view a.job)
-    pub refused : Refused d.answer (b.job ≡ a.job)
+    pub refused : OnErr d.answer (b.job ≡ a.job)
     pub host : b.host ≡ a.host
     pub terminal : b.terminal ≡ a.terminal
     pub sheet : b.sheet ≡ a.sheet
-    pub tried : d.tried ≡ 0
-    pub ordered : d.ordered ≡ 0
+    pub tried : d.tally.tried ≡ 0
+    pub ordered : d.tally.ordered ≡ 0
 
   -- a step, by its own contract
   pub record Moved (tree : ℕ → JobView → Interaction Stepping) (time : ℕ) (a : Moment H T) (d : Done) (b : Moment H T) : Type 0 where

@@ -27,11 +27,11 @@ answers_of (t ∷ ts) = t.did.answer ∷ answers_of ts
 
 abbrev pub tried_in : {M : Type 0} → List (Turn M) → ℕ
 tried_in [] = 0
-tried_in (t ∷ ts) = t.did.tried + tried_in ts
+tried_in (t ∷ ts) = t.did.tally.tried + tried_in ts
 
 abbrev pub ordered_in : {M : Type 0} → List (Turn M) → ℕ
 ordered_in [] = 0
-ordered_in (t ∷ ts) = t.did.ordered + ordered_in ts
+ordered_in (t ∷ ts) = t.did.tally.ordered + ordered_in ts
 
 -- The calls were made one after the other from the moment a to the moment b: their answers stand in order at the front of the
 -- slice of answers, which behind them is what it was; the tally adds up what they did; the host's count of spawns grew by exactly

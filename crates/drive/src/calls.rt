@@ -15,13 +15,19 @@ pub enum Call {
     Collect { ticket: u32 },
 }
 
-// What a call did: its answer (a ticket, the number of a step's progress, 1 for a look at a ticket that is done, else 0),
-// the starts that it tried, and the controls that order a start that it took from a queue.
+// The starts that were tried, and the controls that order a start that were taken from queues.
+#[derive(Clone, Copy, Debug, Default, PartialEq, Eq)]
+pub struct Tally {
+    pub tried: usize,
+    pub ordered: usize,
+}
+
+// What a call did: its answer (a ticket, the number of a step's progress, 1 for a look at a ticket that is done, else 0), and its
+// share of the tally.
 #[derive(Clone, Copy, Debug, PartialEq, Eq)]
 pub struct Done {
     pub answer: Result<u32, Refusal>,
-    pub tried: usize,
-    pub ordered: usize,
+    pub tally: Tally,
 }
 
 // What is done by a call that makes no step, or by a step that is refused: its answer is all.
@@ -31,15 +37,7 @@ impl From<Result<u32, Refusal>> for Done {
     fn from(answer: Result<u32, Refusal>) -> Done {
         Done {
             answer,
-            tried: 0,
-            ordered: 0,
+            tally: Tally::default(),
         }
     }
-}
-
-// The starts tried in a run, and the controls that order a start that were taken from queues.
-#[derive(Clone, Copy, Debug, PartialEq, Eq)]
-pub struct Tally {
-    pub tried: usize,
-    pub ordered: usize,
 }

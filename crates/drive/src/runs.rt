@@ -30,11 +30,16 @@ fn stepped(answer: Result<Stepped, Refusal>, sheet: &[Record]) -> Done
     ensures { result ≡ Answers.step_done answer sheet.now }
 {
     match answer {
-        Ok(step) => Done {
-            answer: Ok(u32::from(u8::from(step.progress))),
-            tried: spawns_among(&sheet[..step.records]),
-            ordered: usize::from(step.ordered),
-        },
+        Ok(step) => {
+            let tally = Tally {
+                tried: spawns_among(&sheet[..step.records]),
+                ordered: usize::from(step.ordered),
+            };
+            Done {
+                answer: Ok(u32::from(u8::from(step.progress))),
+                tally,
+            }
+        }
         Err(refusal) => Err(refusal).into(),
     }
 }
@@ -74,14 +79,16 @@ pub fn drive<H: Host, T: Terminal>(
     if answers.len() < calls.len() {
         return Err(Refusal::Sheet);
     }
-    let mut tried = 0;
-    let mut ordered = 0;
+    let mut tally = Tally {
+        tried: 0,
+        ordered: 0,
+    };
     // By index: of a slice whose elements were lent in a `zip`, a proof knows only the length.
     for (i, call) in calls.iter().enumerate() {
         let done = make(job, host, terminal, sheet, *call);
         answers[i] = done.answer;
-        tried += done.tried;
-        ordered += done.ordered;
+        tally.tried += done.tally.tried;
+        tally.ordered += done.tally.ordered;
     }
-    Ok(Tally { tried, ordered })
+    Ok(tally)
 }

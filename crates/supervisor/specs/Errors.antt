@@ -1,5 +1,5 @@
 -- The numbers of the refusals.
-use Rattle.std.specs.Prelude.{ℕ, Ok, Err, Result, ⊤}
+use Rattle.std.specs.Prelude.{ℕ}
 use Rattle.supervisor.specs.declared.errors.Refusal.{Refusal}
 use Rattle.supervisor.specs.declared.errors.Refusal.TheVariants.{Closed, Sheet, Clock, Signal, Grace, Number, Queue, Tickets, Unwatched, Pauses, Unknown, Waiting, Line}
 
@@ -17,8 +17,3 @@ refusal_number Pauses = 10
 refusal_number Unknown = 11
 refusal_number Waiting = 12
 refusal_number Line = 13
-
--- where a call was refused, P holds
-abbrev pub Refused : {A : Type 0} → Result A Refusal → Type 0 → Type 0
-Refused (Ok x) P = ⊤
-Refused (Err r) P = P

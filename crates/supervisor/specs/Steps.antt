@@ -1,5 +1,5 @@
 -- What a call leaves of a job, and what a step leaves of a job, its host, its terminal and the sheet.
-use Rattle.std.specs.Prelude.{◌≡◌, ℕ, ◌≤◌, List, length, Ok, Err, Result}
+use Rattle.std.specs.Prelude.{◌≡◌, ℕ, ◌≤◌, List, length, Ok, Err, Result, OnErr}
 use Rattle.host.specs.declared.journal.Record.{Record}
 use Rattle.host.specs.declared.process.Host as Host
 use Rattle.host.specs.declared.terminal.Terminal as Terminal
@@ -9,7 +9,6 @@ use Rattle.supervisor.specs.declared.errors.Refusal.{Refusal}
 use Rattle.supervisor.specs.declared.answers.Stepped.{Stepped}
 use Rattle.supervisor.specs.declared.job.Job.{Job}
 use Rattle.task.specs.Conducts.{Conducts}
-use Rattle.supervisor.specs.Errors.{Refused}
 use Rattle.supervisor.specs.Job.{JobView, Stepping, may_step}
 use Rattle.task.specs.View.{task_view}
 use Rattle.supervisor.specs.View.{mailbox_view}
@@ -25,7 +24,7 @@ view_made (Err r) = Err r
 -- The call f of the job j was answered r, and left the job j'; where it was refused nothing changed.
 pub record Answers {A : Type 0} (f : JobView → JobView × Result A Refusal) (j : Job) (r : Result A Refusal) (j' : Job) : Type 0 where
   pub answer : (job_view j', r) ≡ f (job_view j)
-  pub unchanged : Refused r (j' ≡ j)
+  pub unchanged : OnErr r (j' ≡ j)
 
 -- A job, its host, its terminal and the sheet, at one moment.
 pub record Moment (H T : Type 0) : Type 0 where
