@@ -1,2 +1,3 @@
+-- What is shown of the children of the simulated host, and of signal 0.
 pub mod Places
 pub mod Null

@@ -1,3 +1,4 @@
+-- What is shown of the task: what holds of every step, its course, and each thing that it does.
 pub mod Always
 pub mod Courses
 pub mod Grants
