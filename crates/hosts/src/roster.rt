@@ -24,7 +24,7 @@ pub struct Roster {
 }
 
 impl Roster {
-    ghost use Rattle.std.specs.Prelude.{◌≡◌, ◌+◌, [], ◌∷◌, ◌++◌, ◌==◌, length, position, if◌then◌else◌, Some, None, nat_le};
+    ghost use Rattle.std.specs.Prelude.{◌≡◌, ◌+◌, [], ◌∷◌, ◌++◌, ◌==◌, length, find, option_copied, position, if◌then◌else◌, Some, None, nat_le};
     ghost use Rattle.hosts.specs.Children.{child, has_room, is_living, life_of, numbers, reported, with_life, with_living, without};
     ghost use Rattle.hosts.specs.Roster.{held, items};
 
@@ -51,12 +51,17 @@ impl Roster {
             .position(|child| child.number == number)
     }
 
+    fn child(&self, number: u32) -> Option<&Child>
+        ensures { option_copied result ≡ find (λ c. number == c.number) (items self.now) }
+    {
+        self.children.iter().find(|child| child.number == number)
+    }
+
     // The life of a child; none where it is off the roster.
     pub(crate) fn life(&self, number: u32) -> Option<Life>
         ensures { result ≡ life_of number (items self.now) }
     {
-        let at = self.place(number)?;
-        Some(self.children[at].life)
+        self.child(number).map(|child| child.life)
     }
 
     // Adds a going child with the next number; none where there is no room or no number left.

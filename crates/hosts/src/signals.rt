@@ -7,9 +7,21 @@ use std::marker::Model;
 
 pub const KILL: u8 = 9;
 
+const CHLD: u8 = 17;
+
 pub const CONT: u8 = 18;
 
 pub const STOP: u8 = 19;
+
+const TSTP: u8 = 20;
+
+const TTIN: u8 = 21;
+
+const TTOU: u8 = 22;
+
+const URG: u8 = 23;
+
+const WINCH: u8 = 28;
 
 // A number from 1 to 31.
 #[derive(Clone, Copy)]
@@ -92,8 +104,8 @@ impl Life {
             (Life::Ended(_), _) => self,
             _ if signal.is_ignored(mask) => self,
             (_, CONT) => Life::Going,
-            (_, 19..=22) => Life::Stopped,
-            (_, 17 | 23 | 28) => self,
+            (_, STOP | TSTP | TTIN | TTOU) => Life::Stopped,
+            (_, CHLD | URG | WINCH) => self,
             _ => Life::Ended(End::Signalled(signal)),
         }
     }

@@ -121,12 +121,7 @@ impl Host for SimulatedHost {
     }
 
     fn wait(&mut self, child: u32) -> Result<ProcessEnd, Fault> {
-        self.count();
-        match self.roster.report(child) {
-            None => Err(Fault::NO_CHILD),
-            Some(Life::Going | Life::Stopped) => Err(Fault::INTERRUPTED),
-            Some(Life::Ended(end)) => Ok(end.into()),
-        }
+        self.poll(child)?.ok_or(Fault::INTERRUPTED)
     }
 
     fn kill(&mut self, child: u32) -> Result<(), Fault> {

@@ -8,6 +8,11 @@ use crate::token::{number, two_numbers};
 use supervisor::answers::StepKind;
 use supervisor::sends::Send;
 
+// The signals that stop a child are those from the first to the last of these.
+const STOP: u64 = 19;
+
+const TTOU: u64 = 22;
+
 #[derive(Clone, Copy)]
 pub enum Line {
     Make { options: u64, mask: u64 },
@@ -97,7 +102,7 @@ fn read_stop(fields: &[u8]) -> Option<Line>
     ensures { result ≡ option_and_then stop_line (numbers_of fields.now) }
 {
     match two_numbers(fields)? {
-        (child, 19..=22) => Some(Line::Stop { child }),
+        (child, STOP..=TTOU) => Some(Line::Stop { child }),
         _ => None,
     }
 }
