@@ -1,9 +1,10 @@
 -- The mailbox stays in order: sending, taking, raising and collecting keep its tickets in balance.
-use Rattle.std.proofs.Common.{◌≡◌, ℕ, ◌+◌, ◌<◌, Bool, true, Some, Ok, List, [], ◌∷◌, ◌++◌, length, sym, refl, ◌∙◌, arith}
+use Rattle.std.proofs.Common.{◌≡◌, ℕ, ◌+◌, ◌<◌, Bool, Some, Ok, List, [], ◌∷◌, ◌++◌, length, sym, refl, ◌∙◌, arith}
 use Rattle.std.proofs.lemmas.Bool.Decides.{nat_tests}
 use Rattle.std.proofs.lemmas.Grind.{common_steps}
 use Rattle.std.proofs.lemmas.List.Recursion.{is_sum_by}
-use Rattle.tickets.specs.Tickets.{is_raised, raise_each, found}
+use Rattle.tickets.specs.declared.flag.Mark.TheVariants.{Raised}
+use Rattle.tickets.specs.Tickets.{raise_each, found}
 use Rattle.tickets.specs.Weights.{one_at, each}
 use Rattle.tickets.proofs.Tables.{weigh-append, weigh-each, raise_waiting, raise-taken, put-weight, vacate_waiting, vacate-taken, waiting_few, change-length}
 use Rattle.task.specs.declared.messages.Control.{Control}
@@ -19,7 +20,7 @@ use Rattle.supervisor.specs.Sound.{weigh_messages, weigh_queues, Balanced, InOrd
 
 -- the ticket in hand is raised
 raise_in : (t : ℕ) (hand : List ℕ) (m : MailboxView) → InOrder (t ∷ hand) m → InOrder hand (raised t m)
-raise_in t hand m h = grind (arith, nat_tests, h.balance (one_at t), raise_waiting, raise-taken, change-length)
+raise_in t hand m h = grind (arith, nat_tests, h.balance (one_at t), raise_waiting, raise-taken t m.table, change-length)
 
 raise_each_in : (ts hand : List ℕ) (m : MailboxView) → InOrder (ts ++ hand) m → InOrder hand (with_table (raise_each ts m.table) m)
 raise_each_in [] hand m h = h
@@ -61,7 +62,7 @@ admit_in p c held m h e = grind (arith, nat_tests, weigh_enqueued, put-weight, c
 -- COLLECTING
 
 -- a raised ticket is collected
-pub vacate_in : (t : ℕ) (m : MailboxView) → InOrder [] m → is_raised (found t m.table) ≡ true → InOrder [] (vacated t m)
+pub vacate_in : (t : ℕ) (m : MailboxView) → InOrder [] m → found t m.table ≡ Some Raised → InOrder [] (vacated t m)
 vacate_in t m h r =
     let balance : Balanced [] (vacated t m) = λ w. h.balance w ∙ sym (vacate_waiting t m.table r w) in
-    grind (arith, vacate-taken, change-length)
+    grind (arith, vacate-taken t m.table, change-length)

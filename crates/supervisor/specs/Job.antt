@@ -78,9 +78,9 @@ send p c v = if v.closed then (v, Ok 0) else sent (Mail.may_send p v.mailbox) p 
 -- LOOK AND COLLECT
 
 -- ticket 0 is done; a held one is done once it is raised, or the job is closed
-abbrev pub looked : Bool → Mark → Result Bool Refusal
-looked closed Held = Ok closed
-looked closed Raised = Ok true
+abbrev pub looked : Bool → Option Mark → Result Bool Refusal
+looked closed (Some Held) = Ok closed
+looked closed (Some Raised) = Ok true
 looked closed mark = Err Unknown
 
 abbrev pub look : ℕ → JobView → Result Bool Refusal

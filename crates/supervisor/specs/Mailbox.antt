@@ -1,6 +1,6 @@
 -- The mailbox of a job: how messages are sent and taken, and what becomes of tickets.
 use Rattle.std.specs.Prelude.{ℕ, ◌+◌, Bool, if◌then◌else◌, not, List, [], ◌∷◌, ◌++◌, length, replicate, Some, None, Ok, Err, Option, Result, nat_lt, ⊤}
-use Rattle.tickets.specs.Tickets.{Table, free_entry, raise, raise_each, put, new_mark, ticket_room, vacate}
+use Rattle.tickets.specs.Tickets.{Table, raise, raise_each, put, new_mark, ticket_room, vacate}
 use Rattle.supervisor.specs.declared.errors.Refusal.{Refusal}
 use Rattle.supervisor.specs.declared.errors.Refusal.TheVariants.{Queue, Tickets}
 use Rattle.task.specs.declared.messages.Control.{Control}
@@ -120,4 +120,4 @@ vacated ticket m = with_table (vacate ticket m.table) m
 
 -- an empty mailbox
 abbrev pub empty : MailboxView
-empty = record { queues = record { normal = []; high = []; urgent = [] }; ending = []; issued = 0; table = replicate 256 free_entry }
+empty = record { queues = record { normal = []; high = []; urgent = [] }; ending = []; issued = 0; table = replicate 256 None }

@@ -1,14 +1,13 @@
 -- What raising, issuing and vacating do to a ticket table: to its weights, its length and its marks.
-use Rattle.std.proofs.Common.{◌≡◌, ℕ, ◌+◌, ◌≤◌, Bool, true, false, cond, List, [], ◌∷◌, ◌++◌, length, get_or, set, Some, None, one-add, length-set, refl, ap, ◌∙◌, arith}
-use Rattle.std.specs.List.{count_by, position_or_len, position}
+use Rattle.std.proofs.Common.{◌≡◌, ℕ, ◌+◌, ◌≤◌, Bool, true, cond, List, [], ◌∷◌, ◌++◌, length, get_or, set, Some, None, one-add, length-set, refl, ap, ◌∙◌, arith}
+use Rattle.std.specs.List.{position_or_len, position}
 use Rattle.std.proofs.lemmas.Bool.Decides.{nat_tests}
 use Rattle.std.proofs.lemmas.List.{set_past}
-use Rattle.std.proofs.lemmas.List.Recursion.{is_sum_by}
+use Rattle.std.proofs.lemmas.List.Sums.{sum_by-cons}
 use Rattle.tickets.specs.declared.flag.Mark.{Mark}
-use Rattle.tickets.specs.declared.flag.Mark.TheVariants.{Free}
-use Rattle.tickets.specs.declared.flag.Entry.{Entry}
+use Rattle.tickets.specs.declared.flag.Mark.TheVariants.{Raised}
 use Rattle.tickets.specs.Weights.{weight, weigh, one_at, each}
-use Rattle.tickets.specs.Tickets.{Table, free_entry, is_free, is_waiting, is_raised, is_taken, change, raise, put, vacate, found, free, free_places, ticket_room}
+use Rattle.tickets.specs.Tickets.{Place, Table, place, is_waiting, is_raised, is_taken, change, raise, put, vacate, found, free, free_places, ticket_room}
 
 -- WEIGHTS
 
@@ -36,28 +35,24 @@ places_few p (e ∷ es) = grind (arith, places_few p es)
 pub waiting_few : (es : Table) → weight is_waiting each es ≤ length es
 waiting_few = places_few is_waiting
 
--- the free places, as a count gives them
-pub free_places_counted : (es : Table) → free_places es ≡ count_by free es
-free_places_counted es = is_sum_by free_places (λ e. cond (free e) 1 0) refl (λ _ _. refl) es
-
 -- ONE PLACE CHANGES
 
 -- a change sets the first place that p picks; where it picks none, that place is past the end, and nothing is set
-pub change-set : (p : Entry → Bool) (f : Entry → Entry) (es : Table) (d : Entry) → change p f es ≡ set es (position_or_len p es) (f (get_or es (position_or_len p es) d))
+pub change-set : (p : Place → Bool) (f : Place → Place) (es : Table) (d : Place) → change p f es ≡ set es (position_or_len p es) (f (get_or es (position_or_len p es) d))
 change-set p f [] d = refl
 change-set p f (e ∷ es) d = grind (arith, one-add, change-set p f es d)
 
 -- the places stay
-pub change-length : (p : Entry → Bool) (f : Entry → Entry) (es : Table) → length (change p f es) ≡ length es
-change-length p f es = ap length (change-set p f es free_entry) ∙ length-set es _ _
+pub change-length : (p : Place → Bool) (f : Place → Place) (es : Table) → length (change p f es) ≡ length es
+change-length p f es = ap length (change-set p f es None) ∙ length-set es _ _
 
 -- where the search finds that place
-pub change-at : (p : Entry → Bool) (f : Entry → Entry) (es : Table) (d : Entry) (i : ℕ) → Some i ≡ position p es → set es i (f (get_or es i d)) ≡ change p f es
+pub change-at : (p : Place → Bool) (f : Place → Place) (es : Table) (d : Place) (i : ℕ) → Some i ≡ position p es → set es i (f (get_or es i d)) ≡ change p f es
 change-at p f es d i e = grind (arith, nat_tests, change-set p f es d)
 
 -- and where it finds none
-pub change_none : (p : Entry → Bool) (f : Entry → Entry) (es : Table) → None ≡ position p es → es ≡ change p f es
-change_none p f es e = grind (arith, nat_tests, change-set p f es free_entry, set_past {X = Entry})
+pub change_none : (p : Place → Bool) (f : Place → Place) (es : Table) → None ≡ position p es → es ≡ change p f es
+change_none p f es e = grind (arith, nat_tests, change-set p f es None, set_past {X = Place})
 
 -- what a search of the first place that p picks does
 pub ruleset changes = (change-at, change_none)
@@ -82,27 +77,32 @@ raise_none t (e ∷ es) h = grind (arith, nat_tests, raise_none t es)
 -- A TICKET IS ISSUED
 
 -- a new ticket gets a place
-pub put-weight : (p : Mark → Bool) (t : ℕ) (mark : Mark) (es : Table) → 1 ≤ weight is_free each es → p Free ≡ false → (w : ℕ → ℕ) → weight p w (put t mark es) ≡ cond (p mark) (w t) 0 + weight p w es
-put-weight p t mark [] h n w = absurd (omega arith)
-put-weight p t mark (e ∷ es) h n w = grind (arith, put-weight p t mark es)
+pub put-weight : (p : Mark → Bool) (t : ℕ) (mark : Mark) (es : Table) → 1 ≤ free_places es → (w : ℕ → ℕ) → weight p w (put t mark es) ≡ cond (p mark) (w t) 0 + weight p w es
+put-weight p t mark [] h w = absurd (omega arith)
+put-weight p t mark (e ∷ es) h w = grind (arith, put-weight p t mark es)
+
+-- whether the first place is free, and the free ones after it
+free-cons : (e : Place) (es : Table) → free_places (e ∷ es) ≡ cond (free e) 1 0 + free_places es
+free-cons e es = sum_by-cons _ e es
 
 -- it takes one free place at most
-pub put-free : (t : ℕ) (mark : Mark) (es : Table) → is_free mark ≡ false → weight is_free each es ≤ weight is_free each (put t mark es) + 1
-put-free t mark [] n = omega arith
-put-free t mark (e ∷ es) n = grind (arith, put-free t mark es)
+pub put-free : (t : ℕ) (mark : Mark) (es : Table) → free_places es ≤ free_places (put t mark es) + 1
+put-free t mark [] = omega arith
+put-free t mark (None ∷ es) = omega (arith, free-cons None es, free-cons (place t mark) es)
+put-free t mark (Some k ∷ es) = omega (arith, free-cons (Some k) es, free-cons (Some k) (put t mark es), put-free t mark es)
 
 -- where there is room for n + 1 tickets, there is room for one
 pub room_first : (n last : ℕ) (es : Table) → ticket_room (n + 1) last es ≡ true → ticket_room 1 last es ≡ true
 room_first n last es h = grind (arith, nat_tests)
 
 -- and once it is issued, for n
-pub room_rest : (n last : ℕ) (mark : Mark) (es : Table) → is_free mark ≡ false → ticket_room (n + 1) last es ≡ true → ticket_room n (last + 1) (put (last + 1) mark es) ≡ true
-room_rest n last mark es taken h = grind (arith, nat_tests, put-free (last + 1) mark es taken)
+pub room_rest : (n last : ℕ) (mark : Mark) (es : Table) → ticket_room (n + 1) last es ≡ true → ticket_room n (last + 1) (put (last + 1) mark es) ≡ true
+room_rest n last mark es h = grind (arith, nat_tests, put-free (last + 1) mark es)
 
 -- A PLACE IS VACATED
 
 -- a raised ticket that leaves its place changes nothing for those that wait
-pub vacate_waiting : (t : ℕ) (es : Table) → is_raised (found t es) ≡ true → (w : ℕ → ℕ) → weight is_waiting w (vacate t es) ≡ weight is_waiting w es
+pub vacate_waiting : (t : ℕ) (es : Table) → found t es ≡ Some Raised → (w : ℕ → ℕ) → weight is_waiting w (vacate t es) ≡ weight is_waiting w es
 vacate_waiting t [] h w = refl
 vacate_waiting t (e ∷ es) h w = grind (arith, vacate_waiting t es)
 

@@ -1,90 +1,70 @@
 // The ticket table of a job. A ticket is a flag that is raised once.
-ghost use Rattle.std.specs.Prelude.{◌≡◌, ◌<◌, Bool, IfSome, length};
-ghost use Rattle.std.specs.List.{count_by, find, position};
+ghost use Rattle.std.specs.Prelude.{◌≡◌, ◌<◌, Bool, IfSome, Some, length};
+ghost use Rattle.std.specs.List.{find, position};
 ghost use Rattle.std.specs.Option.{option_copied};
 ghost use Rattle.tickets.specs.Searches.{Makes, Tests};
-ghost use Rattle.tickets.specs.Tickets.{TicketsView, change, found, free, free_entry, fresh, issue, raise, raise_each, risen, stands, ticket_room, vacate, waits};
-ghost use Rattle.tickets.specs.declared.flag.Entry.{Entry};
+ghost use Rattle.tickets.specs.Tickets.{TicketsView, Place, change, found, free_places, fresh, issue, raise, raise_each, risen, stands, ticket_room, vacate, waits};
 
 use std::marker::Model;
 
-// What a place of the table has.
+// The mark of a ticket that has a place in the table.
 #[derive(Clone, Copy, PartialEq, Eq, Debug)]
 pub enum Mark {
-    // No ticket.
-    Free,
-    // A ticket that waits and that nobody holds.
+    // It waits, and nobody holds it.
     Unheld,
-    // A ticket that waits and is held.
+    // It waits and is held.
     Held,
-    // A ticket that is raised and held.
+    // It is raised and held.
     Raised,
 }
 
-// A place of the table. A free one has serial 0, which is no ticket's.
+// A ticket that has a place in the table.
 #[derive(Clone, Copy, PartialEq, Eq, Debug)]
-pub struct Entry {
+pub struct Ticket {
     pub serial: u32,
     pub mark: Mark,
 }
 
-impl Entry {
-    // No `Default`: a default would not say that the place is free.
-    const FREE: Entry = Entry {
-        serial: 0,
-        mark: Mark::Free,
-    };
+// A place of the table: its ticket, or none where it is free.
+type Place = Option<Ticket>;
 
-    // Whether no ticket has the place.
-    fn is_free(&self) -> bool
-        ensures { result ≡ free self.now }
+impl Ticket {
+    // Whether it waits and has this serial.
+    fn waits(self, serial: u32) -> bool
+        ensures { result ≡ waits serial (Some self) }
     {
-        self.mark == Mark::Free
+        self.mark != Mark::Raised && serial == self.serial
     }
 
-    // Whether the ticket waits there.
-    fn waits(&self, serial: u32) -> bool
-        ensures { result ≡ waits serial self.now }
-    {
-        matches!(self.mark, Mark::Unheld | Mark::Held) && serial == self.serial
-    }
-
-    // Whether the ticket has its place there.
-    fn stands(&self, serial: u32) -> bool
-        ensures { result ≡ stands serial self.now }
-    {
-        self.mark != Mark::Free && serial == self.serial
-    }
-
-    // The place once its ticket is raised; a ticket that nobody holds leaves its place.
-    fn risen(self) -> Entry
-        ensures { result ≡ risen self }
+    // Its place once it is raised; a ticket that nobody holds leaves its place.
+    fn risen(self) -> Place
+        ensures { result ≡ risen (Some self) }
     {
         match self.mark {
-            Mark::Free | Mark::Unheld => Entry::FREE,
-            Mark::Held | Mark::Raised => Entry {
+            Mark::Unheld => None,
+            Mark::Held | Mark::Raised => Some(Ticket {
                 mark: Mark::Raised,
                 ..self
-            },
+            }),
         }
     }
 }
 
 // The first place that `passes` picks.
-fn place<P: Fn(&Entry) -> bool>(entries: &[Entry], passes: P) -> Option<usize>
+fn place<P: Fn(&Place) -> bool>(entries: &[Place], passes: P) -> Option<usize>
     requires { P.IsAlwaysCallable passes }
     ensures bound { IfSome result (λ at. at < length entries.now) }
-    ensures first { (p : Entry → Bool) → Tests P.Fn passes p → result ≡ position p entries.now }
+    ensures first { (p : Place → Bool) → Tests P.Fn passes p → result ≡ position p entries.now }
 {
     entries.iter().position(passes)
 }
 
 // Changes the first place that `passes` picks, or nothing where it picks none.
 #[tactic(auto, using(crate::proofs::Tables::changes))]
-fn change<P: Fn(&Entry) -> bool, F: FnOnce(Entry) -> Entry>(entries: &mut [Entry], passes: P, to: F)
+fn change<P: Fn(&Place) -> bool, F: FnOnce(Place) -> Place>(entries: &mut [Place], passes: P, to: F)
     requires passes { P.IsAlwaysCallable passes }
     requires to { F.IsAlwaysCallable to }
-    ensures { (p : Entry → Bool) (f : Entry → Entry) → Tests P.Fn passes p → Makes F.FnOnce to f → entries.new ≡ change p f entries.old }
+    ensures { (p : Place → Bool) (f : Place → Place) → Tests P.Fn passes p → Makes F.FnOnce to f → entries.new ≡ change p f entries.old }
 {
     if let Some(at) = place(entries, passes) {
         entries[at] = to(entries[at]);
@@ -92,24 +72,24 @@ fn change<P: Fn(&Entry) -> bool, F: FnOnce(Entry) -> Entry>(entries: &mut [Entry
 }
 
 // The place of the ticket `serial`.
-fn entry_of(entries: &[Entry], serial: u32) -> Option<&Entry>
+fn place_of(entries: &[Place], serial: u32) -> Option<&Place>
     ensures { option_copied result ≡ find (stands serial) entries.now }
 {
-    entries.iter().find(|e| e.stands(serial))
+    entries.iter().find(|place| place.is_some_and(|ticket| ticket.serial == serial))
 }
 
 // How many places are free.
-fn free_places(entries: &[Entry]) -> usize
-    ensures { result ≡ count_by free entries.now }
+fn free_places(entries: &[Place]) -> usize
+    ensures { result ≡ free_places entries.now }
 {
-    entries.iter().filter(|e| e.is_free()).count()
+    entries.iter().filter(|place| place.is_none()).count()
 }
 
 // 256 places, and the last serial given out. Serials count from 1 and are never given twice. The places are an array that is
 // searched, and no map, since the memory of a job is fixed.
 #[derive(Clone, Copy)]
 pub struct Tickets {
-    entries: [Entry; 256],
+    entries: [Place; 256],
     issued: u32,
 }
 
@@ -129,13 +109,12 @@ impl Tickets {
         ensures { result ≡ fresh }
     {
         Tickets {
-            entries: [Entry::FREE; 256],
+            entries: [None; 256],
             issued: 0,
         }
     }
 
     // Whether `n` more tickets can be given: whether there are places and serials for them. A table has 256 places.
-    #[tactic(auto, using(crate::proofs::Tables::free_places_counted))]
     pub fn fits(&self, n: usize) -> bool
         ensures answer { result ≡ ticket_room n self.now.issued self.now.table }
         ensures full { length self.now.table ≡ 256 }
@@ -155,8 +134,8 @@ impl Tickets {
         let mark = if held { Mark::Held } else { Mark::Unheld };
         change(
             &mut self.entries,
-            Entry::is_free,
-            |_| Entry { serial, mark },
+            Option::is_none,
+            |_| Some(Ticket { serial, mark }),
         );
         self.issued = serial;
         Some(serial)
@@ -166,7 +145,11 @@ impl Tickets {
     pub fn raise(&mut self, serial: u32)
         ensures { self.new ≡ record self.old { table = raise serial self.old.table } }
     {
-        change(&mut self.entries, |e| e.waits(serial), Entry::risen);
+        change(
+            &mut self.entries,
+            |place| place.is_some_and(|ticket| ticket.waits(serial)),
+            |place| place.and_then(Ticket::risen),
+        );
     }
 
     // Raises each ticket of a list, the first first.
@@ -178,18 +161,25 @@ impl Tickets {
         }
     }
 
-    // The mark of the ticket `serial`, `Free` where it has no place.
-    pub fn mark(&self, serial: u32) -> Mark
+    // The mark of the ticket `serial`; none where it has no place.
+    pub fn mark(&self, serial: u32) -> Option<Mark>
         ensures { result ≡ found serial self.now.table }
     {
-        entry_of(&self.entries, serial).map_or(Mark::Free, |e| e.mark)
+        place_of(&self.entries, serial)
+            .copied()
+            .flatten()
+            .map(|ticket| ticket.mark)
     }
 
     // Frees the place of the ticket `serial`, whatever its mark; nothing changes where it has none.
     pub fn vacate(&mut self, serial: u32)
         ensures { self.new ≡ record self.old { table = vacate serial self.old.table } }
     {
-        change(&mut self.entries, |e| e.stands(serial), |_| Entry::FREE);
+        change(
+            &mut self.entries,
+            |place| place.is_some_and(|ticket| ticket.serial == serial),
+            |_| None,
+        );
     }
 }
 
@@ -208,36 +198,36 @@ mod tests {
         assert_eq!(rt; tickets.issue(true), None);
         tickets.vacate(7);
         assert_eq!(rt; tickets.issue(true), Some(257));
-        assert_eq!(rt; tickets.entries[6].serial, 257);
+        assert_eq!(rt; tickets.entries[6].map(|ticket| ticket.serial), Some(257));
     }
 
     #[test]
     fn a_held_ticket_is_raised_once_and_freed_once(rt: HostRuntime) {
         let mut tickets = Tickets::new();
-        assert_eq!(rt; tickets.mark(1), Mark::Free);
+        assert_eq!(rt; tickets.mark(1), None);
         assert_eq!(rt; tickets.issue(true), Some(1));
-        assert_eq!(rt; tickets.mark(1), Mark::Held);
+        assert_eq!(rt; tickets.mark(1), Some(Mark::Held));
         tickets.raise(1);
-        assert_eq!(rt; tickets.mark(1), Mark::Raised);
+        assert_eq!(rt; tickets.mark(1), Some(Mark::Raised));
         tickets.raise(1);
-        assert_eq!(rt; tickets.mark(1), Mark::Raised);
+        assert_eq!(rt; tickets.mark(1), Some(Mark::Raised));
         tickets.vacate(1);
-        assert_eq!(rt; tickets.mark(1), Mark::Free);
+        assert_eq!(rt; tickets.mark(1), None);
         assert_eq!(rt; tickets.issue(true), Some(2));
         tickets.vacate(1);
-        assert_eq!(rt; tickets.mark(2), Mark::Held);
+        assert_eq!(rt; tickets.mark(2), Some(Mark::Held));
     }
 
     #[test]
     fn an_unheld_ticket_leaves_its_place_when_raised(rt: HostRuntime) {
         let mut tickets = Tickets::new();
         assert_eq!(rt; tickets.issue(false), Some(1));
-        assert_eq!(rt; tickets.mark(1), Mark::Unheld);
+        assert_eq!(rt; tickets.mark(1), Some(Mark::Unheld));
         assert!(rt; !tickets.fits(256));
         tickets.raise(1);
-        assert_eq!(rt; tickets.mark(1), Mark::Free);
+        assert_eq!(rt; tickets.mark(1), None);
         assert!(rt; tickets.fits(256));
-        assert_eq!(rt; tickets.entries[0].serial, 0);
+        assert_eq!(rt; tickets.entries[0], None);
     }
 
     #[test]
@@ -247,9 +237,9 @@ mod tests {
         assert_eq!(rt; tickets.issue(false), Some(2));
         assert_eq!(rt; tickets.issue(true), Some(3));
         tickets.raise_each(&[3, 0, 2, 9]);
-        assert_eq!(rt; tickets.mark(1), Mark::Held);
-        assert_eq!(rt; tickets.mark(2), Mark::Free);
-        assert_eq!(rt; tickets.mark(3), Mark::Raised);
+        assert_eq!(rt; tickets.mark(1), Some(Mark::Held));
+        assert_eq!(rt; tickets.mark(2), None);
+        assert_eq!(rt; tickets.mark(3), Some(Mark::Raised));
     }
 
     #[test]
@@ -257,14 +247,14 @@ mod tests {
         let mut tickets = Tickets::new();
         tickets.raise(0);
         tickets.vacate(0);
-        assert_eq!(rt; tickets.mark(0), Mark::Free);
+        assert_eq!(rt; tickets.mark(0), None);
         assert_eq!(rt; tickets.issue(true), Some(1));
     }
 
     #[test]
     fn serials_end_at_the_largest(rt: HostRuntime) {
         let mut tickets = Tickets {
-            entries: [Entry::FREE; 256],
+            entries: [None; 256],
             issued: u32::MAX - 1,
         };
         assert!(rt; tickets.fits(1) && !tickets.fits(2));
@@ -272,6 +262,6 @@ mod tests {
         assert!(rt; !tickets.fits(1));
         assert_eq!(rt; tickets.issue(true), None);
         assert_eq!(rt; tickets.issued, u32::MAX);
-        assert_eq!(rt; tickets.mark(u32::MAX), Mark::Held);
+        assert_eq!(rt; tickets.mark(u32::MAX), Some(Mark::Held));
     }
 }

@@ -115,9 +115,9 @@ impl Job {
         ensures { result ≡ Spec.looked (job_view self.now).closed (found ticket (job_view self.now).mailbox.table) }
     {
         match self.mailbox.tickets.mark(ticket) {
-            Mark::Free | Mark::Unheld => Err(Refusal::Unknown),
-            Mark::Held => Ok(self.closed),
-            Mark::Raised => Ok(true),
+            None | Some(Mark::Unheld) => Err(Refusal::Unknown),
+            Some(Mark::Held) => Ok(self.closed),
+            Some(Mark::Raised) => Ok(true),
         }
     }
 
