@@ -16,6 +16,9 @@ use crate::run::Rehearsal;
 use crate::script::ReadError;
 use std::alloc::{AllocError, Global};
 
+// The most bytes of a script.
+pub const MOST_BYTES: usize = 32768;
+
 // The text that a script prints: what each of its lines answers with the records of its calls, or the number of a faulty line.
 pub fn rehearse(heap: Global, script: &[u8]) -> Result<String, AllocError>
     ensures { IfOk result (λ text. Printed (script_of script.now) (string_bytes text)) }

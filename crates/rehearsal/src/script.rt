@@ -3,11 +3,9 @@ ghost use Rattle.std.specs.Prelude.{◌≡◌, Ok, MatchResult};
 ghost use Rattle.rehearsal.specs.declared.script.ReadError.TheVariants.{Faulty, Memory};
 ghost use Rattle.rehearsal.specs.Script.{Explains, script_of};
 
+use crate::MOST_BYTES;
 use crate::line::{Line, parse};
 use std::alloc::{AllocError, AllocFailed, Global};
-
-// The most bytes of a script.
-const MOST_BYTES: usize = 32768;
 
 // What is wrong with a script: it is too long, or the line of this number is faulty.
 #[derive(Clone, Copy, Debug, PartialEq, Eq)]

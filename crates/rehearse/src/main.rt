@@ -4,7 +4,7 @@
 use std::io::Read;
 
 // One byte more than a script may have: enough to know that it is too long.
-const ENOUGH: u64 = 32769;
+const ENOUGH: u64 = rehearsal::MOST_BYTES as u64 + 1;
 
 fn main(rt: HostRuntime) -> anyhow::Result<()> {
     let mut script = Vec::new(rt.alloc());
