@@ -1,7 +1,7 @@
 -- How a run goes on, call by call.
 use Rattle.std.proofs.Common.{◌≡◌, ℕ, ◌+◌, ◌%◌, ◌^◌, ◌<◌, ◌≤◌, List, [], ◌∷◌, ◌++◌, length, get_or, take, drop, set, Ok, Result, refl, arith, length-take}
-use Rattle.std.proofs.lemmas.List.{take_more, drop_more, take_all, set-append_right}
-use Rattle.std.proofs.lemmas.List.Recursion.{is_sum_by}
+use Rattle.std.proofs.lemmas.List.{map-append, take_more, drop_more, take_all, set-append_right}
+use Rattle.std.proofs.lemmas.List.Sums.{sum_by-cons, sum_by_push}
 use Rattle.std.proofs.lemmas.Grind.{common_steps}
 use Rattle.host.specs.declared.process.Host as Host
 use Rattle.host.specs.declared.terminal.Terminal as Terminal
@@ -27,10 +27,6 @@ module _ {M : Type 0} (R : Call → M → Done → M → Type 0) where
   linked-length [] a ts b h = grind arith
   linked-length (c ∷ cs) a ts b h = grind (arith, linked-length cs h.0.at h.1 b h.4)
 
-answers_more : {M : Type 0} (t : Turn M) (ts : List (Turn M)) → answers_of (ts ++ t ∷ []) ≡ answers_of ts ++ t.did.answer ∷ []
-answers_more t [] = refl
-answers_more t (u ∷ ts) = cc (answers_more t ts)
-
 -- one more answer, behind those that are written
 written_more : (rs xs : List (Result ℕ Refusal)) (i : ℕ) (y : Result ℕ Refusal) → length rs ≡ i → i < length xs → set (rs ++ drop i xs) i y ≡ (rs ++ y ∷ []) ++ drop (i + 1) xs
 written_more rs xs i y e l = grind (arith, common_steps, drop_more xs i (Ok 0) l, set-append_right rs (drop i xs) i i y e (omega arith))
@@ -50,7 +46,7 @@ module _ {H T : Type 0} (by_host : Host.Ghosts H) (by_terminal : Terminal.Ghosts
 
   linked-spawns : (cs : List Call) (a : Moment H T) (ts : List (Turn (Moment H T))) (b : Moment H T) → Linked (Makes by_host by_terminal) cs a ts b → (by_host.book b.host).spawns % 2 ^ 64 ≡ ((by_host.book a.host).spawns + tried_in ts) % 2 ^ 64
   linked-spawns [] a ts b h = rw (h.0, h.1) (omega arith)
-  linked-spawns (c ∷ cs) a ts b h = rw h.2 (omega (arith, linked-spawns cs h.0.at h.1 b h.4, makes-spawns c a h.0.did h.0.at h.3))
+  linked-spawns (c ∷ cs) a ts b h = rw (h.2, sum_by-cons (λ (u : Turn (Moment H T)). u.did.tally.tried) h.0 h.1) (omega (arith, linked-spawns cs h.0.at h.1 b h.4, makes-spawns c a h.0.did h.0.at h.3))
 
   -- the first i calls were made, with at most one start and one order each
   pub record SoFar (calls : List Call) (i : ℕ) (a : Moment H T) (xs : List (Result ℕ Refusal)) (tried ordered : ℕ) (b : Moment H T) (ys : List (Result ℕ Refusal)) : Type 0 where
@@ -72,9 +68,9 @@ module _ {H T : Type 0} (by_host : Host.Ghosts H) (by_terminal : Terminal.Ghosts
       record {
         turns = h.turns ++ t ∷ [];
         linked = rw (take_more calls i z l) (linked_more (Makes by_host by_terminal) (take i calls) a h.turns b (get_or calls i z) t h.linked r);
-        answers = cc (h.answers, written_more (answers_of h.turns) xs i t.did.answer count k, answers_more t h.turns);
-        tried_is = grind (arith, common_steps, is_sum_by (tried_in {M = Moment H T}) (λ u. u.did.tally.tried) refl (λ _ _. refl));
-        ordered_is = grind (arith, common_steps, is_sum_by (ordered_in {M = Moment H T}) (λ u. u.did.tally.ordered) refl (λ _ _. refl));
+        answers = cc (h.answers, written_more (answers_of h.turns) xs i t.did.answer count k, map-append (λ (u : Turn (Moment H T)). u.did.answer) h.turns (t ∷ []));
+        tried_is = grind (arith, common_steps, sum_by_push (λ (u : Turn (Moment H T)). u.did.tally.tried) h.turns t);
+        ordered_is = grind (arith, common_steps, sum_by_push (λ (u : Turn (Moment H T)). u.did.tally.ordered) h.turns t);
         tried_few = omega (arith, h.tried_few, few.0);
         ordered_few = omega (arith, h.ordered_few, few.1);
       }

@@ -1,6 +1,8 @@
 -- What a call of a run did, by its answer and the sheet after it.
-use Rattle.std.specs.Prelude.{ℕ, ◌+◌, Bool, true, false, if◌then◌else◌, List, [], ◌∷◌, take, Ok, Err, Result, ⊤}
+use Rattle.std.specs.Prelude.{ℕ, Bool, true, false, List, take, Ok, Err, Result, ⊤}
 use Rattle.std.specs.Int.{from_bool}
+use Rattle.std.specs.List.{count_by}
+use Rattle.std.specs.Result.{result_map_both}
 use Rattle.host.specs.declared.journal.CallKind.{CallKind}
 use Rattle.host.specs.declared.journal.CallKind.TheVariants.{Spawn}
 use Rattle.host.specs.declared.journal.Record.{Record}
@@ -16,19 +18,16 @@ is_spawn call = false
 
 -- the spawns among records
 abbrev pub spawn_records : List Record → ℕ
-spawn_records [] = 0
-spawn_records (r ∷ rs) = (if is_spawn r.call then 1 else 0) + spawn_records rs
+spawn_records rs = count_by (λ r. is_spawn r.call) rs
 
 abbrev pub done : Result ℕ Refusal → ℕ → ℕ → Done
 done answer tried ordered = record { answer = answer; tally = record { tried = tried; ordered = ordered } }
 
 abbrev pub look_value : Result Bool Refusal → Result ℕ Refusal
-look_value (Ok b) = Ok (from_bool b)
-look_value (Err r) = Err r
+look_value r = result_map_both from_bool (λ e. e) r
 
 abbrev pub collect_value : Result ⊤ Refusal → Result ℕ Refusal
-collect_value (Ok u) = Ok 0
-collect_value (Err r) = Err r
+collect_value r = result_map_both (λ _. 0) (λ e. e) r
 
 -- what a step did, by its answer and the sheet after it
 abbrev pub step_done : Result Stepped Refusal → List Record → Done

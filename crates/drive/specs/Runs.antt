@@ -1,5 +1,6 @@
 -- A run: calls made one after the other.
-use Rattle.std.specs.Prelude.{◌≡◌, ℕ, ◌+◌, ◌%◌, ◌^◌, ◌<◌, ◌≤◌, List, [], ◌∷◌, ◌++◌, length, drop, Ok, Err, Result}
+use Rattle.std.specs.Prelude.{◌≡◌, ℕ, ◌+◌, ◌%◌, ◌^◌, ◌<◌, ◌≤◌, List, [], ◌∷◌, ◌++◌, length, map, drop, Ok, Err, Result}
+use Rattle.std.specs.List.{sum_by}
 use Rattle.host.specs.declared.process.Host as Host
 use Rattle.host.specs.declared.terminal.Terminal as Terminal
 use Rattle.supervisor.specs.declared.errors.Refusal.{Refusal}
@@ -22,16 +23,13 @@ Linked {M} R (c ∷ cs) a ts b = (t : Turn M) × (us : List (Turn M)) × (ts ≡
 
 -- the answers of turns, and their counts
 abbrev pub answers_of : {M : Type 0} → List (Turn M) → List (Result ℕ Refusal)
-answers_of [] = []
-answers_of (t ∷ ts) = t.did.answer ∷ answers_of ts
+answers_of ts = map (λ t. t.did.answer) ts
 
 abbrev pub tried_in : {M : Type 0} → List (Turn M) → ℕ
-tried_in [] = 0
-tried_in (t ∷ ts) = t.did.tally.tried + tried_in ts
+tried_in ts = sum_by (λ t. t.did.tally.tried) ts
 
 abbrev pub ordered_in : {M : Type 0} → List (Turn M) → ℕ
-ordered_in [] = 0
-ordered_in (t ∷ ts) = t.did.tally.ordered + ordered_in ts
+ordered_in ts = sum_by (λ t. t.did.tally.ordered) ts
 
 -- The calls were made one after the other from the moment a to the moment b: their answers stand in order at the front of the
 -- slice of answers, which behind them is what it was; the tally adds up what they did; the host's count of spawns grew by exactly

@@ -14,7 +14,6 @@ use supervisor::errors::Refusal;
 use supervisor::job::Job;
 
 // The spawns among records.
-#[tactic(auto, using(crate::proofs::Counts::spawns_counted))]
 fn spawns_among(records: &[Record]) -> usize
     ensures { result ≡ Answers.spawn_records records.now }
 {
