@@ -1,4 +1,5 @@
 -- What the call of a line answers, and what it leaves of the job, its host, its terminal and the sheet.
+use Rattle.std.specs.Result.{result_map_both}
 use Rattle.std.specs.Prelude.{◌≡◌, ℕ, ◌^◌, ◌%◌, Bool, if◌then◌else◌, ◌&&◌, length, Ok, Err, Result, nat_lt, MatchResult, ⊤}
 use Rattle.std.specs.Int.{from_bool}
 use Rattle.hosts.specs.declared.children.End.TheVariants.{Exited}
@@ -32,13 +33,11 @@ alone value = record { value = value; records = 0 }
 
 -- the answer of a call that writes no records: a value where it is granted
 abbrev pub answered : {A : Type 0} → (A → ℕ) → Result A Refusal → Result Granted Refusal
-answered value (Ok x) = Ok (alone (value x))
-answered value (Err refusal) = Err refusal
+answered value r = result_map_both (λ x. alone (value x)) (λ refusal. refusal) r
 
 -- the answer of a step: what it did, and how many records it wrote
 abbrev pub stepped_answer : Result Stepped Refusal → Result Granted Refusal
-stepped_answer (Ok s) = Ok (record { value = progress_number s.progress; records = s.records })
-stepped_answer (Err refusal) = Err refusal
+stepped_answer r = result_map_both (λ s. record { value = progress_number s.progress; records = s.records }) (λ refusal. refusal) r
 
 -- SENDS, LOOKS AND COLLECTS, on what the job holds
 
