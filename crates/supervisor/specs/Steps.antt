@@ -1,4 +1,5 @@
 -- What a call leaves of a job, and what a step leaves of a job, its host, its terminal and the sheet.
+use Rattle.std.specs.Result.{result_map_both}
 use Rattle.std.specs.Prelude.{◌≡◌, ℕ, ◌≤◌, List, length, Ok, Err, Result, OnErr}
 use Rattle.host.specs.declared.journal.Record.{Record}
 use Rattle.host.specs.declared.process.Host as Host
@@ -18,8 +19,7 @@ job_view j = record { closed = j.closed; task = task_view j.task; mailbox = mail
 
 -- a job that was made, as its view
 abbrev pub view_made : Result Job Refusal → Result JobView Refusal
-view_made (Ok j) = Ok (job_view j)
-view_made (Err r) = Err r
+view_made r = result_map_both job_view (λ refusal. refusal) r
 
 -- The call f of the job j was answered r, and left the job j'; where it was refused nothing changed.
 pub record Answers {A : Type 0} (f : JobView → JobView × Result A Refusal) (j : Job) (r : Result A Refusal) (j' : Job) : Type 0 where
