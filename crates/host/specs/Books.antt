@@ -1,6 +1,7 @@
 -- The books of a host and of a terminal: how a call and its answer move them, and which answers fit.
 use Rattle.std.specs.Prelude.{◌≡◌, ℕ, ◌+◌, ◌%◌, ◌^◌, ◌<◌, ◌≤◌, Bool, true, false, if◌then◌else◌, ◌||◌, List, [], ◌∷◌, ◌++◌, length, Some, None, Ok, Err, ◌==◌, ⊤}
 use Rattle.std.specs.List.{fold}
+use Rattle.std.specs.Set.{remove_key}
 use Rattle.host.specs.declared.fault.Fault.{Fault}
 use Rattle.host.specs.declared.state.ProcessEnd.{ProcessEnd}
 use Rattle.host.specs.declared.state.ProcessEnd.TheVariants.{Exited, Signalled, Continued}
@@ -23,8 +24,7 @@ on_roster n (x ∷ xs) = n == x || on_roster n xs
 
 -- the roster without a child
 abbrev pub strike : ℕ → List ℕ → List ℕ
-strike n [] = []
-strike n (x ∷ xs) = if n == x then xs else x ∷ strike n xs
+strike n xs = remove_key (λ x. n == x) xs
 
 -- a spawn that is answered a child adds it; an end and a let-go strike the child off; a fault leaves the roster
 abbrev pub roster_after : List ℕ → (c : HostCall) → HostReply c → List ℕ

@@ -1,5 +1,6 @@
 -- The children of the simulated host: a list, in the order of their spawns.
 use Rattle.std.specs.Prelude.{◌≡◌, ℕ, ◌^◌, ◌<◌, Bool, true, false, if◌then◌else◌, ◌&&◌, List, [], ◌∷◌, map, length, All, Some, None, Option, ◌==◌, nat_le, nat_lt}
+use Rattle.std.specs.Set.{remove_key, swap_key}
 use Rattle.host.specs.declared.state.ProcessEnd.{ProcessEnd}
 use Rattle.host.specs.declared.state.ProcessEnd.TheVariants as process
 use Rattle.hosts.specs.declared.children.End.{End}
@@ -23,13 +24,11 @@ life_of n (c ∷ cs) = if n == c.number then Some c.life else life_of n cs
 
 -- the children without the child n
 abbrev pub without : ℕ → List Child → List Child
-without n [] = []
-without n (c ∷ cs) = if n == c.number then cs else c ∷ without n cs
+without n cs = remove_key (λ c. n == c.number) cs
 
 -- the children once the child n has this life
 abbrev pub with_life : ℕ → Life → List Child → List Child
-with_life n life [] = []
-with_life n life (c ∷ cs) = if n == c.number then child n life ∷ cs else c ∷ with_life n life cs
+with_life n life cs = swap_key (λ c. n == c.number) cs (child n life)
 
 -- a child is living where it is there and has not ended
 abbrev pub is_living : Option Life → Bool
