@@ -1,6 +1,6 @@
 -- The books of a host and of a terminal: how a call and its answer move them, and which answers fit.
 use Rattle.std.specs.Prelude.{◌≡◌, ℕ, ◌+◌, ◌%◌, ◌^◌, ◌<◌, ◌≤◌, Bool, true, false, if◌then◌else◌, ◌||◌, List, [], ◌∷◌, ◌++◌, length, Some, None, Ok, Err, ◌==◌, ⊤}
-use Rattle.std.specs.List.{fold}
+use Rattle.std.specs.List.{fold, list_any}
 use Rattle.std.specs.Set.{remove_key}
 use Rattle.host.specs.declared.fault.Fault.{Fault}
 use Rattle.host.specs.declared.state.ProcessEnd.{ProcessEnd}
@@ -19,8 +19,7 @@ next_count n = (n + 1) % 2 ^ 64
 
 -- whether a child is on the roster
 abbrev pub on_roster : ℕ → List ℕ → Bool
-on_roster n [] = false
-on_roster n (x ∷ xs) = n == x || on_roster n xs
+on_roster n xs = list_any (λ x. n == x) xs
 
 -- the roster without a child
 abbrev pub strike : ℕ → List ℕ → List ℕ
