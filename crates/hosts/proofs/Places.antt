@@ -1,5 +1,5 @@
 -- What a child's life, its removal and a new life are, by the place of the child in the list.
-use Rattle.std.proofs.Common.{◌≡◌, ℕ, ◌+◌, ◌≤◌, ◌==◌, List, [], ◌∷◌, get_or, slice_set, length, Some, find, option_map, one-add, refl, arith}
+use Rattle.std.proofs.Common.{◌≡◌, ℕ, ◌+◌, ◌≤◌, ◌==◌, List, [], ◌∷◌, get_or, slice_set, length, Some, one-add, refl, arith}
 use Rattle.std.proofs.lemmas.Bool.Decides.{nat_tests}
 use Rattle.std.specs.List.{remove, position_or_len}
 use Rattle.hosts.specs.declared.children.Life.{Life}
@@ -9,10 +9,6 @@ use Rattle.hosts.specs.Children.{child, life_of, without, with_life}
 -- the first place of a child with the number n; past the end where there is none
 abbrev pub place : ℕ → List Child → ℕ
 place n cs = position_or_len (λ c. n == c.number) cs
-
-pub life-find : (n : ℕ) (cs : List Child) → life_of n cs ≡ option_map (λ c. c.life) (find (λ c. n == c.number) cs)
-life-find n [] = refl
-life-find n (c ∷ cs) = grind (arith, nat_tests, life-find n cs)
 
 pub without-remove : (n : ℕ) (cs : List Child) → without n cs ≡ remove cs (place n cs)
 without-remove n [] = refl

@@ -1,5 +1,7 @@
 -- The children of the simulated host: a list, in the order of their spawns.
-use Rattle.std.specs.Prelude.{◌≡◌, ℕ, ◌^◌, ◌<◌, Bool, true, false, if◌then◌else◌, ◌&&◌, List, [], ◌∷◌, map, length, All, Some, None, Option, ◌==◌, nat_le, nat_lt}
+use Rattle.std.specs.Prelude.{◌≡◌, ℕ, ◌^◌, ◌<◌, Bool, true, false, if◌then◌else◌, ◌&&◌, List, map, length, All, Some, None, Option, ◌==◌, nat_le, nat_lt}
+use Rattle.std.specs.List.{find}
+use Rattle.std.specs.Option.{option_map}
 use Rattle.std.specs.Set.{remove_key, swap_key}
 use Rattle.host.specs.declared.state.ProcessEnd.{ProcessEnd}
 use Rattle.host.specs.declared.state.ProcessEnd.TheVariants as process
@@ -19,8 +21,7 @@ numbers cs = map (λ c. c.number) cs
 
 -- the life of the child n, if it is there
 abbrev pub life_of : ℕ → List Child → Option Life
-life_of n [] = None
-life_of n (c ∷ cs) = if n == c.number then Some c.life else life_of n cs
+life_of n cs = option_map (λ c. c.life) (find (λ c. n == c.number) cs)
 
 -- the children without the child n
 abbrev pub without : ℕ → List Child → List Child
