@@ -1,5 +1,5 @@
 -- The absent terminal: what its calls are answered, and its book.
-use Rattle.std.specs.Prelude.{◌≡◌, Err}
+use Rattle.std.specs.Prelude.{◌≡◌, Err, None}
 use Rattle.host.specs.Fault.{fault}
 use Rattle.host.specs.Calls.{TerminalCall, owner, acquire, release, TerminalReply}
 use Rattle.host.specs.Books.{TerminalBook, next_count}
@@ -7,15 +7,15 @@ use Rattle.foreground.specs.declared.absent.AbsentTerminal.{AbsentTerminal}
 
 -- its own group is 1, and no grant is ever open
 abbrev pub book_of : AbsentTerminal → TerminalBook
-book_of t = record { own = 1; grants = 0; served = t.served }
+book_of t = record { own = 1; grants = 0; served = t.served.0 }
 
 -- the book of a new one
 abbrev pub fresh : TerminalBook
 fresh = record { own = 1; grants = 0; served = 0 }
 
--- no group has the foreground, an acquire faults with 6, and a release does nothing
+-- there is no owner, an acquire faults with 6, and a release does nothing
 abbrev pub answer : (c : TerminalCall) → TerminalReply c
-answer owner = 0
+answer owner = None
 answer (acquire group) = Err (fault 6)
 answer release = tt
 

@@ -1,29 +1,26 @@
 // The absent terminal: nobody has its foreground, and nobody gets it.
 ghost use Rattle.std.specs.Prelude.{◌≡◌};
 ghost use Rattle.std.proofs.Common.{rules};
-ghost use Rattle.foreground.specs.Absent.{Did, answer, book_of, counted, fresh};
+ghost use Rattle.foreground.specs.Absent.{Did, answer, book_of, fresh};
 ghost use Rattle.foreground.specs.Book.{answered};
 
 use host::fault::Fault;
 use host::terminal::Terminal;
+use std::num::Wrapping;
 
-// How many calls were served, modulo 2^64.
+// How many calls were served.
 #[derive(Drop)]
 pub struct AbsentTerminal {
-    served: u64,
+    served: Wrapping<u64>,
 }
 
 impl AbsentTerminal {
     pub fn new() -> Self
         ensures { book_of result ≡ fresh }
     {
-        AbsentTerminal { served: 0 }
-    }
-
-    fn count(&mut self)
-        ensures { book_of self.new ≡ counted (book_of self.old) }
-    {
-        self.served = self.served.wrapping_add(1);
+        AbsentTerminal {
+            served: Wrapping(0),
+        }
     }
 }
 
@@ -40,18 +37,18 @@ impl Terminal for AbsentTerminal {
         1
     }
 
-    fn owner(&mut self) -> u32 {
-        self.count();
-        0
+    fn owner(&mut self) -> Option<u32> {
+        self.served += 1;
+        None
     }
 
     fn acquire(&mut self, _group: u32) -> Result<(), Fault> {
-        self.count();
+        self.served += 1;
         Err(Fault::NO_TERMINAL)
     }
 
     fn release(&mut self) {
-        self.count();
+        self.served += 1;
     }
 }
 
@@ -63,9 +60,9 @@ mod tests {
     fn nobody_gets_the_foreground(rt: HostRuntime) {
         let mut terminal = AbsentTerminal::new();
         assert_eq!(rt; terminal.own_group(), 1);
-        assert_eq!(rt; terminal.owner(), 0);
+        assert_eq!(rt; terminal.owner(), None);
         assert_eq!(rt; terminal.acquire(100), Err(Fault { code: 6 }));
         terminal.release();
-        assert_eq!(rt; terminal.served, 3);
+        assert_eq!(rt; terminal.served, Wrapping(3));
     }
 }

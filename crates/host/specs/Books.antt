@@ -1,5 +1,5 @@
 -- The books of a host and of a terminal: how a call and its answer move them, and which answers fit.
-use Rattle.std.specs.Prelude.{◌≡◌, ℕ, ◌+◌, ◌%◌, ◌^◌, ◌<◌, ◌≤◌, Bool, true, false, if◌then◌else◌, ◌||◌, List, [], ◌∷◌, ◌++◌, length, Some, None, Ok, Err, ◌==◌, ⊤}
+use Rattle.std.specs.Prelude.{◌≡◌, ℕ, ◌+◌, ◌%◌, ◌^◌, ◌<◌, ◌≤◌, Bool, true, false, List, [], ◌∷◌, ◌++◌, length, Some, None, Ok, Err, ◌==◌, ⊤}
 use Rattle.std.specs.List.{fold, list_any}
 use Rattle.std.specs.Set.{remove_key}
 use Rattle.host.specs.declared.fault.Fault.{Fault}
@@ -98,9 +98,10 @@ grants_after n release u = 0
 abbrev pub terminal_after : TerminalBook → (c : TerminalCall) → TerminalReply c → TerminalBook
 terminal_after b c a = record { own = b.own; grants = grants_after b.grants c a; served = next_count b.served }
 
--- a group is a number below 2^31; while a grant is open an acquire faults with 16
+-- a group is a number from 1 to 2^31 − 1; while a grant is open an acquire faults with 16
 abbrev pub TerminalFits : ℕ → (c : TerminalCall) → TerminalReply c → Type 0
-TerminalFits n owner group = group < 2 ^ 31
+TerminalFits n owner None = ⊤
+TerminalFits n owner (Some group) = (1 ≤ group) × (group < 2 ^ 31)
 TerminalFits n (acquire group) (Ok u) = n ≡ 0
 TerminalFits n (acquire group) (Err f) = IsFault f × (1 ≤ n → f.code ≡ 16)
 TerminalFits n release u = ⊤

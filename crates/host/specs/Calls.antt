@@ -43,9 +43,9 @@ pub data TerminalCall : Type 0 where
   acquire : ℕ → TerminalCall
   release : TerminalCall
 
--- an owner of 0 says that there is no terminal
+-- the owner of the foreground is a group; none where there is no terminal
 abbrev pub TerminalReply : TerminalCall → Type 0
-TerminalReply owner = ℕ
+TerminalReply owner = Option ℕ
 TerminalReply (acquire group) = Result ⊤ Fault
 TerminalReply release = ⊤
 

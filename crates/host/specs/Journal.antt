@@ -1,7 +1,7 @@
 -- The journal: the record of a call, and the numbers that records are written with.
-use Rattle.std.specs.Prelude.{ℕ, ◌+◌, List, map, ℤ, pos, neg_ℤ, Some, None, Ok, Err, Option, Result, ⊤}
+use Rattle.std.specs.Prelude.{ℕ, ◌+◌, List, map, ℤ, pos, neg_ℤ, Ok, Err, Option, Result, ⊤}
+use Rattle.std.specs.Option.{option_map_or}
 use Rattle.host.specs.declared.fault.Fault.{Fault}
-use Rattle.host.specs.declared.state.ProcessEnd.{ProcessEnd}
 use Rattle.host.specs.declared.state.ProcessEnd.TheVariants.{Exited, Signalled, Continued}
 use Rattle.host.specs.declared.journal.CallKind.{CallKind}
 use Rattle.host.specs.declared.journal.CallKind.TheVariants.{Spawn, Poll, Wait, Kill, Signal, Cont, LetGo, Hook, Routine, Tell, Owner, Acquire, Release}
@@ -45,10 +45,9 @@ abbrev pub or_fault : {A : Type 0} → (A → Answer) → Result A Fault → Ans
 or_fault f (Ok x) = f x
 or_fault f (Err fault) = Answers.Fault fault
 
--- a child that goes on is recorded as nothing
-abbrev pub end_or_nothing : Option ProcessEnd → Answer
-end_or_nothing None = Nothing
-end_or_nothing (Some e) = End e
+-- a value is recorded by f, none as nothing: a child that goes on, or a terminal that isn't there
+abbrev pub or_nothing : {A : Type 0} → (A → Answer) → Option A → Answer
+or_nothing f o = option_map_or f o Nothing
 
 abbrev pub nothing : ⊤ → Answer
 nothing u = Nothing
@@ -59,7 +58,7 @@ entry kind child number answer = record { call = kind; child = child; number = n
 -- the record of a call: its child (0 where it names none), its number (0 where it has none) and its answer
 abbrev pub host_record : (c : HostCall) → HostReply c → Record
 host_record (spawn program options way time) a = entry Spawn 0 way (or_fault Child a)
-host_record (poll n) a = entry Poll n 0 (or_fault end_or_nothing a)
+host_record (poll n) a = entry Poll n 0 (or_fault (or_nothing End) a)
 host_record (wait n) a = entry Wait n 0 (or_fault End a)
 host_record (kill n) a = entry Kill n 0 (or_fault nothing a)
 host_record (signal n s) a = entry Signal n s (or_fault nothing a)
@@ -70,7 +69,7 @@ host_record (routine n state previous) a = entry Routine 0 n (or_fault nothing a
 host_record (tell handler told) a = entry Tell 0 told.code (or_fault nothing a)
 
 abbrev pub terminal_record : (c : TerminalCall) → TerminalReply c → Record
-terminal_record owner a = entry Owner 0 0 (Group a)
+terminal_record owner a = entry Owner 0 0 (or_nothing Group a)
 terminal_record (acquire group) a = entry Acquire 0 group (or_fault nothing a)
 terminal_record release a = entry Release 0 0 Nothing
 

@@ -61,7 +61,8 @@ impl From<Answer> for i64 {
 }
 
 // A call: the child that it names (0 for none), its number (spawn's way, the signal, the hook or routine, the code told,
-// the group acquired, else 0) and its answer. They are the numbers of the format, and so no Options.
+// the group acquired, else 0) and its answer. They are the numbers of the format, and so no Options. A call is no enum with
+// fields: the child and the number that are printed would then be two matches over thirteen calls.
 #[derive(Clone, Copy, Debug, PartialEq, Eq)]
 pub struct Record {
     pub call: CallKind,

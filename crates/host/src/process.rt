@@ -13,20 +13,16 @@ pub trait Host {
     // The most children that the roster can hold.
     const MOST: usize;
 
-    ghost most: { ℕ };
+    ghost MOST: { ℕ };
 
     ghost book: { Self → HostBook };
 
     // Holds of the host before a call, the call with its arguments, its answer, and the host after it.
     ghost did: { Self → (c : HostCall) → HostReply c → Self → Type 0 };
 
-    // `MOST` as a function, since a clause names a trait's functions and not its constants.
-    fn capacity() -> usize
-        ensures { result ≡ most };
-
     // Whether the roster is full; not counted as a call.
     fn is_full(&self) -> bool
-        ensures { result ≡ nat_le most (length (book self.now).roster) };
+        ensures { result ≡ nat_le MOST (length (book self.now).roster) };
 
     // The options may be a hook's, and so they come beside the program and not as a `Command`.
     fn spawn(
@@ -76,7 +72,7 @@ pub trait Host {
     fn tell(&mut self, handler: u8, fault: Fault) -> Result<(), Fault>
         ensures { did self.old (Calls.tell handler fault) result self.new };
 
-    ghost keeps: { (h : Self) (c : HostCall) (a : HostReply c) (k : Self) → did h c a k → HostKeeps most (book h) c a (book k) };
+    ghost keeps: { (h : Self) (c : HostCall) (a : HostReply c) (k : Self) → did h c a k → HostKeeps MOST (book h) c a (book k) };
 
-    ghost bounded: { (h : Self) → length (book h).roster ≤ most };
+    ghost bounded: { (h : Self) → length (book h).roster ≤ MOST };
 }

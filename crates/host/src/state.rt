@@ -2,7 +2,8 @@
 ghost use Rattle.std.specs.Prelude.{◌≡◌};
 ghost use Rattle.host.specs.State as State;
 
-// How a child process ended: by an exit code, by a signal, or, where a job is reset while it runs, not at all.
+// How a child process ended: by an exit code, by a signal, or, where a job is reset while it runs, not at all. The signal is any
+// byte, since what takes an end takes each, and a type of the 31 signals would take fewer.
 #[derive(Clone, Copy, Debug, PartialEq, Eq)]
 pub enum ProcessEnd {
     Exited(u8),

@@ -16,8 +16,8 @@ pub trait Terminal {
     fn own_group(&self) -> u32
         ensures { result ≡ (book self.now).own };
 
-    // The group that has the foreground, 0 where there is no terminal: the journal has this number, so it is no Option.
-    fn owner(&mut self) -> u32
+    // The group that has the foreground; none where there is no terminal.
+    fn owner(&mut self) -> Option<u32>
         ensures { did self.old Calls.owner result self.new };
 
     // Gives the foreground to a group.

@@ -29,6 +29,17 @@ impl<T: Copy, const N: usize> Clone for Queue<T, N> {
     }
 }
 
+// An empty queue.
+impl<T: Copy + Default, const N: usize> Default for Queue<T, N> {
+    ghost use Rattle.ring.specs.Queue.{held};
+
+    ghost is_default = { λ queue. held queue ≡ [] };
+
+    fn default() -> Self {
+        Queue::new(T::default())
+    }
+}
+
 impl<T: Copy, const N: usize> Queue<T, N> {
     ghost use Rattle.ring.specs.Queue.{held};
 

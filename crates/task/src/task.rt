@@ -14,7 +14,7 @@ pub struct Settings {
 
 // What the task knows of the terminal: the signal that paused the child, the pauses that wait, whether pauses are watched for,
 // and whether a grant of the foreground is held.
-#[derive(Clone, Copy)]
+#[derive(Clone, Copy, Default)]
 pub struct Foreground {
     pub paused: Option<u8>,
     pub pauses: Queue<u8, 32>,

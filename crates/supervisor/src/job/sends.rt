@@ -13,7 +13,6 @@ use crate::priority::Mailbox;
 use crate::sends::Send;
 use host::command::{Command, SpawnOptions};
 use host::state::CommandState;
-use ring::queue::Queue;
 use task::task::{Foreground, Settings, Task};
 use tickets::flag::Mark;
 
@@ -31,12 +30,7 @@ impl Job {
             settings: Settings::default(),
             state: CommandState::Pending,
             previous: None,
-            foreground: Foreground {
-                paused: None,
-                pauses: Queue::new(0),
-                watch: false,
-                grant: false,
-            },
+            foreground: Foreground::default(),
         };
         Ok(Job {
             closed: false,
