@@ -26,7 +26,7 @@ pub record Sim : Type 0 where
 
 -- what a simulated host holds
 abbrev pub view : SimulatedHost → Sim
-view h = record { children = items h.roster; next = h.roster.next; mask = h.mask; options = h.options; served = h.served; spawns = h.spawns }
+view h = record { children = items h.roster; next = h.roster.next; mask = h.mask; options = h.options; served = h.served.0; spawns = h.spawns.0 }
 
 -- a new one has no children, and its first will be 100
 abbrev pub fresh : ℕ → SpawnOptions → Sim

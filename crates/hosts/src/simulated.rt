@@ -2,7 +2,7 @@
 ghost use Rattle.std.specs.Prelude.{◌≡◌};
 ghost use Rattle.host.specs.Calls as Calls;
 ghost use Rattle.hosts.specs.Children.{is_living, life_of};
-ghost use Rattle.hosts.specs.Simulated.{Did, after, answer, book_of, counted, fresh, happened, view};
+ghost use Rattle.hosts.specs.Simulated.{Did, after, answer, book_of, fresh, happened, view};
 ghost use Rattle.hosts.specs.Roster.{items};
 ghost use Rattle.hosts.specs.Book;
 
@@ -13,6 +13,7 @@ use host::command::SpawnOptions;
 use host::fault::Fault;
 use host::process::Host;
 use host::state::{CommandState, ProcessEnd};
+use std::num::Wrapping;
 
 // Bit s of the mask says that the children ignore signal s, if it can be ignored; the options are the command's.
 #[derive(Drop)]
@@ -20,8 +21,8 @@ pub struct SimulatedHost {
     roster: Roster,
     mask: u32,
     options: SpawnOptions,
-    served: u64,
-    spawns: u64,
+    served: Wrapping<u64>,
+    spawns: Wrapping<u64>,
 }
 
 impl SimulatedHost {
@@ -32,22 +33,16 @@ impl SimulatedHost {
             roster: Roster::new(),
             mask,
             options,
-            served: 0,
-            spawns: 0,
+            served: Wrapping(0),
+            spawns: Wrapping(0),
         }
-    }
-
-    fn count(&mut self)
-        ensures { view self.new ≡ counted (view self.old) }
-    {
-        self.served = self.served.wrapping_add(1);
     }
 
     fn send(&mut self, child: u32, signal: u8) -> Result<(), Fault>
         ensures answer { result ≡ answer (view self.old) (Calls.signal child signal) }
         ensures after { view self.new ≡ after (view self.old) (Calls.signal child signal) }
     {
-        self.count();
+        self.served += 1;
         // Not `ok_or(..)?`: with it, the checker makes a proof about borrows that it then refuses.
         let Some(life) = self.roster.life(child) else {
             return Err(Fault::NO_CHILD);
@@ -81,7 +76,7 @@ impl SimulatedHost {
 impl Host for SimulatedHost {
     const MOST: usize = MOST;
 
-    ghost most = { 16 };
+    ghost MOST = { 16 };
 
     ghost book = { λ h. book_of (view h) };
 
@@ -90,10 +85,6 @@ impl Host for SimulatedHost {
     ghost keeps = { λ h c a k d. Book.keeps_so (view h) h.roster.begun h.roster.numbered h.roster.fit c a (view k) d.0 d.1 };
 
     ghost bounded = { λ h. Book.bounded (items h.roster) h.roster.few };
-
-    fn capacity() -> usize {
-        Self::MOST
-    }
 
     fn is_full(&self) -> bool {
         self.roster.is_full()
@@ -106,13 +97,13 @@ impl Host for SimulatedHost {
         _way: u8,
         _time: u64,
     ) -> Result<u32, Fault> {
-        self.count();
-        self.spawns = self.spawns.wrapping_add(1);
+        self.served += 1;
+        self.spawns += 1;
         self.roster.add().ok_or(Fault::NO_ROOM)
     }
 
     fn poll(&mut self, child: u32) -> Result<Option<ProcessEnd>, Fault> {
-        self.count();
+        self.served += 1;
         match self.roster.report(child) {
             None => Err(Fault::NO_CHILD),
             Some(Life::Going | Life::Stopped) => Ok(None),
@@ -137,7 +128,7 @@ impl Host for SimulatedHost {
     }
 
     fn let_go(&mut self, child: u32) {
-        self.count();
+        self.served += 1;
         self.roster.strike(child);
     }
 
@@ -147,7 +138,7 @@ impl Host for SimulatedHost {
         _state: CommandState,
         _previous: Option<CommandState>,
     ) -> Result<SpawnOptions, Fault> {
-        self.count();
+        self.served += 1;
         Ok(self.options)
     }
 
@@ -157,12 +148,12 @@ impl Host for SimulatedHost {
         _state: CommandState,
         _previous: Option<CommandState>,
     ) -> Result<(), Fault> {
-        self.count();
+        self.served += 1;
         Ok(())
     }
 
     fn tell(&mut self, _handler: u8, _fault: Fault) -> Result<(), Fault> {
-        self.count();
+        self.served += 1;
         Ok(())
     }
 }

@@ -29,7 +29,7 @@ fn a_killed_child_is_waited_for_once(rt: HostRuntime) {
     assert!(rt; host.kill(100).is_ok());
     assert_eq!(rt; host.wait(100), Ok(ProcessEnd::Signalled(9)));
     assert_eq!(rt; host.wait(100), Err(Fault { code: 10 }));
-    assert_eq!(rt; (host.served, host.spawns), (4, 1));
+    assert_eq!(rt; (host.served.0, host.spawns.0), (4, 1));
 }
 
 #[test]
@@ -103,5 +103,5 @@ fn sixteen_children_and_one_more(rt: HostRuntime) {
     assert_eq!(rt; host.poll(107), Err(Fault { code: 10 }));
     assert_eq!(rt; spawned(&mut host), Ok(116));
     assert_eq!(rt; host.poll(108), Ok(None));
-    assert_eq!(rt; (host.served, host.spawns), (22, 18));
+    assert_eq!(rt; (host.served.0, host.spawns.0), (22, 18));
 }
