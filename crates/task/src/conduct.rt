@@ -52,8 +52,8 @@ impl Work for Polling {
     }
 }
 
-// Task, host, terminal and sheet come one by one here and in the two below: a struct of them would be made by each caller, and
-// each contract would have to say that the same ones are lent after the call.
+// Task, host, terminal and sheet come one by one here and in the two below, since a caller may own them apart: a struct of loans
+// would be made for each call, and each contract would have to say that the same ones are lent after it.
 
 // Does the work; what it ends with, and how many records were written. None where the sheet has fewer than 8 places.
 fn conduct<W: Work + Drop, H: Host, T: Terminal>(
@@ -80,6 +80,9 @@ fn conduct<W: Work + Drop, H: Host, T: Terminal>(
     let found = work.run(&mut step);
     Some((found, step.used))
 }
+
+// A control and a poll are a public function each: `Work`, whose `run` needs room on the sheet, stays private, since no public call
+// has conditions.
 
 // Carries a control out; its outcome, and how many records were written. None where the sheet has fewer than 8 places.
 pub fn control<H: Host, T: Terminal>(

@@ -21,6 +21,17 @@ impl Task {
         self.previous = Some(self.state.reset(time));
     }
 
+    // Takes the end of the child that ran since `started`.
+    fn finish(&mut self, end: ProcessEnd, started: u64, finished: u64)
+        ensures { task_view self.new ≡ Tree.in_state (CommandState.Finished end started finished) (task_view self.old) }
+    {
+        self.state = CommandState::Finished {
+            end,
+            started,
+            finished,
+        };
+    }
+
     // Takes a spawned child as the one that runs.
     fn run_child(&mut self, child: u32, time: u64)
         ensures { task_view self.new ≡ Tree.started child time (task_view self.old) }
@@ -82,11 +93,7 @@ impl<H: Host, T: Terminal> Step<'_, '_, '_, '_, H, T> {
     {
         self.kill(child)?;
         let end = self.wait(child)?;
-        self.task.state = CommandState::Finished {
-            end,
-            started,
-            finished: self.time,
-        };
+        self.task.finish(end, started, self.time);
         Ok(())
     }
 
@@ -191,11 +198,7 @@ impl<H: Host, T: Terminal> Step<'_, '_, '_, '_, H, T> {
         let Some(end) = end else {
             return PollOutcome::Idle;
         };
-        self.task.state = CommandState::Finished {
-            end,
-            started,
-            finished: self.time,
-        };
+        self.task.finish(end, started, self.time);
         self.yield_foreground();
         PollOutcome::Over
     }

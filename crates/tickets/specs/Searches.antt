@@ -9,5 +9,5 @@ abbrev pub Tests : {F : Type 0} → Shared F (Bor Place × Unit {0}) Bool → F 
 Tests g passes p = (e : Place) (answer : Bool) → FnReturnsAt g passes e answer → answer ≡ p e
 
 -- a call of `to` at a place answers the place that f makes of it
-abbrev pub Makes : {F : Type 0} → Once F (Place × Unit {0}) Place → F → (Place → Place) → Type 0
-Makes g to f = (e answer : Place) → g.post to (e, tt) answer → answer ≡ f e
+abbrev pub Computes : {F : Type 0} → Once F (Place × Unit {0}) Place → F → (Place → Place) → Type 0
+Computes g to f = (e answer : Place) → g.post to (e, tt) answer → answer ≡ f e

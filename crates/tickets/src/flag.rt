@@ -2,7 +2,7 @@
 ghost use Rattle.std.specs.Prelude.{◌≡◌, ◌<◌, Bool, IfSome, Some, length};
 ghost use Rattle.std.specs.List.{find, position};
 ghost use Rattle.std.specs.Option.{option_copied};
-ghost use Rattle.tickets.specs.Searches.{Makes, Tests};
+ghost use Rattle.tickets.specs.Searches.{Computes, Tests};
 ghost use Rattle.tickets.specs.Tickets.{TicketsView, Place, change, found, free_places, fresh, issue, raise, raise_each, risen, stands, ticket_room, vacate, waits};
 
 use std::marker::Model;
@@ -64,7 +64,7 @@ fn place<P: Fn(&Place) -> bool>(entries: &[Place], passes: P) -> Option<usize>
 fn change<P: Fn(&Place) -> bool, F: FnOnce(Place) -> Place>(entries: &mut [Place], passes: P, to: F)
     requires passes { P.IsAlwaysCallable passes }
     requires to { F.IsAlwaysCallable to }
-    ensures { (p : Place → Bool) (f : Place → Place) → Tests P.Fn passes p → Makes F.FnOnce to f → entries.new ≡ change p f entries.old }
+    ensures { (p : Place → Bool) (f : Place → Place) → Tests P.Fn passes p → Computes F.FnOnce to f → entries.new ≡ change p f entries.old }
 {
     if let Some(at) = place(entries, passes) {
         entries[at] = to(entries[at]);

@@ -15,4 +15,4 @@ returns-in_err-end g c =
     rw (p.1, p.2) (and_then (call _) _ c.in_ok-kill.ensures.performs (and_then (call _) _ c.in_err-end.ensures.performs (still_at (rw (c.wait.ensures.task, c.kill.ensures.task)))))
 
 pub returns : goal.returns
-returns g c = and_then (call _) _ c.in_ok-kill.ensures.performs (and_then (call _) _ c.in_ok-end.ensures.performs (still_at (rw (c.wait.ensures.task, c.kill.ensures.task, c.wait.ensures.performs.same.time, c.kill.ensures.performs.same.time))))
+returns g c = and_then (call _) _ c.in_ok-kill.ensures.performs (and_then (call _) _ c.in_ok-end.ensures.performs (still_at (rw (c.finish.ensures, c.wait.ensures.task, c.kill.ensures.task, c.wait.ensures.performs.same.time, c.kill.ensures.performs.same.time))))
