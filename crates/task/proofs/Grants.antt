@@ -21,5 +21,5 @@ pub control_granted : (c : Control) (time : ℕ) (t : TaskView) → Granted t �
 control_granted = control_always Implies released launched
 
 -- and so does a poll
-pub poll_granted : (time : ℕ) (t : TaskView) → Granted t → Always 1 (λ x. Granted x.0) (Tree.poll_child time t)
+pub poll_granted : (restart : Bool) (time : ℕ) (t : TaskView) → Granted t → Always 1 (λ x. Granted x.0) (Tree.poll_child restart time t)
 poll_granted = poll_always Implies released launched

@@ -3,6 +3,9 @@ use Rattle.std.proofs.Common.{◌≡◌, ℕ, ◌+◌, ◌≤◌, [], ◌∷◌,
 use Rattle.host.specs.declared.process.Host as Host
 use Rattle.host.specs.declared.terminal.Terminal as Terminal
 use Rattle.host.specs.declared.journal.Record.{Record}
+use Rattle.host.specs.declared.state.ProcessEnd.{ProcessEnd}
+use Rattle.host.specs.declared.state.CommandState.{CommandState}
+use Rattle.host.specs.declared.state.CommandState.TheVariants.{Pending, Running, Finished}
 use Rattle.host.specs.Calls.{Call, Reply}
 use Rattle.host.specs.Interaction.{Interaction, done, bind, Answered}
 use Rattle.host.specs.Journal.{record_of}
@@ -35,6 +38,12 @@ module _ {H T : Type 0} {by_host : Host.Ghosts H} {by_terminal : Terminal.Ghosts
   -- the same run, with the tree at an equal value
   pub at_value : {A V : Type 0} (f : V → Interaction A) {v w : V} {n : ℕ} {s s' : Step H T} {x : A} → v ≡ w → Performs by_host by_terminal n (f v) s x s' → Performs by_host by_terminal n (f w) s x s'
   at_value f e k = rw (← e) k
+
+  -- the same run, with the tree at a state in which no child runs and which does as Pending does
+  pub where_idle : {A : Type 0} (f : CommandState → Interaction A) (state : CommandState) {n : ℕ} {s s' : Step H T} {x : A} → ((child began : ℕ) → state ≡ Running child began → ⊥) → ((end : ProcessEnd) (began finished : ℕ) → f (Finished end began finished) ≡ f Pending) → Performs by_host by_terminal n (f Pending) s x s' → Performs by_host by_terminal n (f state) s x s'
+  where_idle f Pending idle same k = k
+  where_idle f (Running child began) idle same k = absurd (idle child began refl)
+  where_idle f (Finished end began finished) idle same k = rw (same end began finished) k
 
   -- one call that was answered, and then recorded: it left h in the host and k in the terminal
   pub asked : {c : Call} {a : Reply c} {s s' : Step H T} {h : H} {k : T} {r : Record} → Answered by_host by_terminal (world (place s)) c a (record { host = h; terminal = k }) → Records r (record s { host = record s.host { now = h }; terminal = record s.terminal { now = k } }) s' → r ≡ record_of c a → Asks by_host by_terminal c s a s'

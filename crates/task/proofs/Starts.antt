@@ -1,5 +1,5 @@
 -- How many starts a control and a poll try: at most one, whatever is answered.
-use Rattle.std.proofs.Common.{ℕ, ◌+◌, ◌≤◌, List}
+use Rattle.std.proofs.Common.{ℕ, ◌+◌, ◌≤◌, Bool, List}
 use Rattle.std.specs.Prelude.{⊤}
 use Rattle.host.specs.Calls.{Call, Reply, Event}
 use Rattle.host.specs.Interaction.{Interaction, bind, Traces}
@@ -23,5 +23,5 @@ few_tried did n t s s' p x h r = (always_tried did n (λ _. ⊤) t s s' p x h r)
 pub control_few : (c : Control) (time : ℕ) (t : TaskView) → Few 1 (Tree.control c time t)
 control_few c time t = control_always (λ _ _. ⊤) (λ _. tt) (λ _ _ _. tt) c time t tt
 
-pub poll_few : (time : ℕ) (t : TaskView) → Few 1 (Tree.poll_child time t)
-poll_few time t = poll_always (λ _ _. ⊤) (λ _. tt) (λ _ _ _. tt) time t tt
+pub poll_few : (restart : Bool) (time : ℕ) (t : TaskView) → Few 1 (Tree.poll_child restart time t)
+poll_few restart time t = poll_always (λ _ _. ⊤) (λ _. tt) (λ _ _ _. tt) restart time t tt

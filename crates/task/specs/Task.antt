@@ -1,5 +1,5 @@
 -- The task of a job: its parts, its controls and its poll of the child, as interaction trees.
-use Rattle.std.specs.Prelude.{◌≡◌, ℕ, Bool, true, false, List, [], if◌then◌else◌, Some, None, Ok, Err, Option, Result, ⊤}
+use Rattle.std.specs.Prelude.{◌≡◌, ℕ, Bool, true, false, List, [], if◌then◌else◌, is_ok, Some, None, Ok, Err, Option, Result, ◌==◌, ⊤}
 use Rattle.host.specs.declared.fault.Fault.{Fault}
 use Rattle.std.specs.Result.{result_unwrap_or}
 use Rattle.host.specs.declared.command.SpawnOptions.{SpawnOptions}
@@ -12,12 +12,14 @@ use Rattle.host.specs.Calls as Calls
 use Rattle.host.specs.Calls.{to_host, to_terminal}
 use Rattle.host.specs.Interaction.{Interaction, done, bind, call}
 use Rattle.task.specs.declared.messages.Control.{Control}
-use Rattle.task.specs.declared.messages.Control.TheVariants.{Start, Stop, NextEnding}
+use Rattle.task.specs.declared.messages.Control.TheVariants.{Start, Stop, GracefulStop, TryRestart, TryGracefulRestart, ContinueTryGracefulRestart, Signal, Delete, NextEnding, Func, SetErrorHandler, UnsetErrorHandler, SetSpawnHook, UnsetSpawnHook, SetSpawnFn, ClearSpawnFn}
+use Rattle.task.specs.declared.messages.GraceEnd.{GraceEnd}
+use Rattle.task.specs.declared.messages.GraceEnd.TheVariants as GraceEnds
 use Rattle.task.specs.declared.task.Settings.{Settings}
 use Rattle.task.specs.declared.task.Outcome.{Outcome}
-use Rattle.task.specs.declared.task.Outcome.TheVariants.{Settled, Ended, Joined}
+use Rattle.task.specs.declared.task.Outcome.TheVariants.{Settled, Ended, Graced, Joined, Closes}
 use Rattle.task.specs.declared.task.PollOutcome.{PollOutcome}
-use Rattle.task.specs.declared.task.PollOutcome.TheVariants.{Idle, Faulted, Over}
+use Rattle.task.specs.declared.task.PollOutcome.TheVariants.{Idle, Faulted, Over, Renewed}
 
 -- what the task knows of the terminal: the signal that paused the child, the pauses that wait, whether pauses are watched for, and
 -- whether a grant of the foreground is held
@@ -119,51 +121,118 @@ told (Some n) (Err fault) = bind (call (to_host (Calls.tell n fault))) (λ _. do
 abbrev pub reported : Part → Part
 reported part = bind part (λ x. bind (told x.0.settings.handler x.1) (λ _. done x))
 
+-- A signal to the child.
+
+abbrev pub send_signal : ℕ → ℕ → TaskView → Part
+send_signal child s t = bind (call (to_host (Calls.signal child s))) (λ a. done (t, a))
+
+-- 0 is sent as 15
+abbrev pub sent_as : ℕ → ℕ
+sent_as s = if s == 0 then 15 else s
+
 -- CONTROLS
 
--- a control leaves the task, and an outcome that says what becomes of its ticket
-abbrev pub Course : Type 0
-Course = Interaction (TaskView × Outcome)
+-- a control leaves the task, and an outcome that says what becomes of its ticket; so does a poll of the child
+abbrev pub Course : Type 0 → Type 0
+Course O = Interaction (TaskView × O)
+
+-- what a part is that was done means o; one that faulted settles the ticket
+abbrev pub unless_faulted : Outcome → Result ⊤ Fault → Outcome
+unless_faulted o r = if is_ok r then o else Settled
 
 -- a control that launched: whether a fault was told or not
-abbrev pub launched : ℕ → Outcome → TaskView → Course
+abbrev pub launched : ℕ → Outcome → TaskView → Course Outcome
 launched time o t = bind (reported (launch time t)) (λ x. done (x.0, o))
 
-abbrev pub start_unless : Bool → ℕ → TaskView → Course
+abbrev pub start_unless : Bool → ℕ → TaskView → Course Outcome
 start_unless true time t = done (t, Settled)
 start_unless false time t = launched time Settled t
 
-abbrev pub forced : Result ⊤ Fault → Outcome
-forced (Ok u) = Ended
-forced (Err fault) = Settled
+-- what ends or replaces the child resumes and yields first
+abbrev pub make_way : TaskView → Interaction TaskView
+make_way t = bind (resume t) yield
 
-abbrev pub stop_in : CommandState → ℕ → TaskView → Course
-stop_in (Running child began) time t = bind (reported (end_by_force child began time t)) (λ x. done (x.0, forced x.1))
+abbrev pub stop_in : CommandState → ℕ → TaskView → Course Outcome
+stop_in (Running child began) time t = bind (reported (end_by_force child began time t)) (λ x. done (x.0, unless_faulted Ended x.1))
 stop_in s time t = done (t, Settled)
+
+-- the child is ended by force, and another one started
+abbrev pub replaced : ℕ → TaskView × Result ⊤ Fault → Course Outcome
+replaced time (t, Ok u) = launched time Ended t
+replaced time (t, Err fault) = done (t, Settled)
+
+abbrev pub replace : ℕ → ℕ → ℕ → TaskView → Course Outcome
+replace child began time t = bind (reported (end_by_force child began time t)) (replaced time)
+
+abbrev pub restart_in : CommandState → ℕ → TaskView → Course Outcome
+restart_in (Running child began) time t = replace child began time t
+restart_in s time t = done (t, Settled)
+
+-- the continuation of a graceful restart starts a child whether one ran or not
+abbrev pub continue_in : CommandState → ℕ → TaskView → Course Outcome
+continue_in (Running child began) time t = replace child began time t
+continue_in s time t = launched time Settled t
+
+-- a running child is sent the signal, and o is the outcome
+abbrev pub signal_in : CommandState → ℕ → Outcome → TaskView → Course Outcome
+signal_in (Running child began) s o t = bind (reported (send_signal child (sent_as s) t)) (λ x. done (x.0, unless_faulted o x.1))
+signal_in state s o t = done (t, Settled)
+
+-- the child is asked to end, and a grace runs
+abbrev pub end_gracefully : ℕ → ℕ → GraceEnd → TaskView → Course Outcome
+end_gracefully s grace end t = bind (resume t) (λ t₁. signal_in t₁.state s (Graced grace end) t₁)
+
+-- a running child is let go; the state stays
+abbrev pub delete_in : CommandState → TaskView → Course Outcome
+delete_in (Running child began) t = bind (call (to_host (Calls.let_go child))) (λ _. done (t, Closes))
+delete_in s t = done (t, Closes)
 
 -- who waits for the next ending waits while a child runs
 abbrev pub joins : CommandState → Outcome
 joins s = if is_running s then Joined else Settled
 
-abbrev pub control : Control → ℕ → TaskView → Course
+-- the settings of error handler, spawn hook and way of spawning
+abbrev pub with_settings : Settings → TaskView → Course Outcome
+with_settings s t = done (record t { settings = s }, Settled)
+
+abbrev pub control : Control → ℕ → TaskView → Course Outcome
 control Start time t = start_unless (is_running t.state) time t
-control Stop time t = bind (resume t) (λ t₁. bind (yield t₁) (λ t₂. stop_in t₂.state time t₂))
+control Stop time t = bind (make_way t) (λ t₁. stop_in t₁.state time t₁)
+control (GracefulStop s grace) time t = end_gracefully s grace GraceEnds.Stop t
+control TryRestart time t = bind (make_way t) (λ t₁. restart_in t₁.state time t₁)
+control (TryGracefulRestart s grace) time t = end_gracefully s grace GraceEnds.Restart t
+control ContinueTryGracefulRestart time t = bind (make_way t) (λ t₁. continue_in t₁.state time t₁)
+control (Signal s) time t = signal_in t.state s Settled t
+control Delete time t = bind (yield t) (λ t₁. delete_in t₁.state t₁)
 control NextEnding time t = done (t, joins t.state)
+control (Func n) time t = bind (call (to_host (Calls.routine n t.state t.previous))) (λ _. done (t, Settled))
+control (SetErrorHandler n) time t = with_settings (record t.settings { handler = Some n }) t
+control UnsetErrorHandler time t = with_settings (record t.settings { handler = None }) t
+control (SetSpawnHook n) time t = with_settings (record t.settings { hook = Some n }) t
+control UnsetSpawnHook time t = with_settings (record t.settings { hook = None }) t
+control (SetSpawnFn n) time t = with_settings (record t.settings { way = n }) t
+control ClearSpawnFn time t = with_settings (record t.settings { way = 0 }) t
 
 -- THE POLL OF THE CHILD
 
+-- once the child has ended: another one is started, if a restart is remembered
+abbrev pub follow : Bool → ℕ → TaskView → Course PollOutcome
+follow false time t = done (t, Over)
+follow true time t = bind (reported (launch time t)) (λ x. done (x.0, if is_ok x.1 then Renewed else Over))
+
 -- a child that ended has finished, and the terminal is yielded; a fault is told
-abbrev pub polled : ℕ → ℕ → TaskView → Result (Option ProcessEnd) Fault → Interaction (TaskView × PollOutcome)
-polled began time t (Ok None) = done (t, Idle)
-polled began time t (Ok (Some end)) = bind (yield (in_state (Finished end began time) t)) (λ t₁. done (t₁, Over))
-polled began time t (Err fault) = bind (told t.settings.handler (Err fault)) (λ _. done (t, Faulted))
+abbrev pub polled : Bool → ℕ → ℕ → TaskView → Result (Option ProcessEnd) Fault → Course PollOutcome
+polled restart began time t (Ok None) = done (t, Idle)
+polled restart began time t (Ok (Some end)) = bind (yield (in_state (Finished end began time) t)) (follow restart time)
+polled restart began time t (Err fault) = bind (told t.settings.handler (Err fault)) (λ _. done (t, Faulted))
 
-abbrev pub poll_in : CommandState → ℕ → TaskView → Interaction (TaskView × PollOutcome)
-poll_in (Running child began) time t = bind (call (to_host (Calls.poll child))) (polled began time t)
-poll_in s time t = done (t, Idle)
+abbrev pub poll_in : CommandState → Bool → ℕ → TaskView → Course PollOutcome
+poll_in (Running child began) restart time t = bind (call (to_host (Calls.poll child))) (polled restart began time t)
+poll_in s restart time t = done (t, Idle)
 
-abbrev pub poll_child : ℕ → TaskView → Interaction (TaskView × PollOutcome)
-poll_child time t = poll_in t.state time t
+-- `restart` says whether a restart is remembered
+abbrev pub poll_child : Bool → ℕ → TaskView → Course PollOutcome
+poll_child restart time t = poll_in t.state restart time t
 
 -- WHAT HOLDS
 

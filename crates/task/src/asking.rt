@@ -75,6 +75,16 @@ impl<H: Host, T: Terminal> Step<'_, '_, '_, '_, H, T> {
         reply
     }
 
+    pub(crate) fn signal(&mut self, child: u32, signal: u8) -> Result<(), Fault>
+        requires { Room 1 self.old }
+        ensures { Asks H.Host T.Terminal (Calls.to_host (Calls.signal child signal)) self.old result self.new }
+    {
+        let reply = self.host.signal(child, signal);
+        let answer = reply.map_or_else(Answer::Fault, |()| Answer::Nothing);
+        self.record(CallKind::Signal, child, u32::from(signal), answer);
+        reply
+    }
+
     pub(crate) fn cont(&mut self, child: u32) -> Result<(), Fault>
         requires { Room 1 self.old }
         ensures { Asks H.Host T.Terminal (Calls.to_host (Calls.cont child)) self.old result self.new }
@@ -83,6 +93,14 @@ impl<H: Host, T: Terminal> Step<'_, '_, '_, '_, H, T> {
         let answer = reply.map_or_else(Answer::Fault, |()| Answer::Nothing);
         self.record(CallKind::Cont, child, 0, answer);
         reply
+    }
+
+    pub(crate) fn let_go(&mut self, child: u32)
+        requires { Room 1 self.old }
+        ensures { Asks H.Host T.Terminal (Calls.to_host (Calls.let_go child)) self.old tt self.new }
+    {
+        self.host.let_go(child);
+        self.record(CallKind::LetGo, child, 0, Answer::Nothing);
     }
 
     pub(crate) fn hook(
@@ -97,6 +115,21 @@ impl<H: Host, T: Terminal> Step<'_, '_, '_, '_, H, T> {
         let reply = self.host.hook(number, state, previous);
         let answer = reply.map_or_else(Answer::Fault, Answer::Options);
         self.record(CallKind::Hook, 0, u32::from(number), answer);
+        reply
+    }
+
+    pub(crate) fn routine(
+        &mut self,
+        number: u8,
+        state: CommandState,
+        previous: Option<CommandState>,
+    ) -> Result<(), Fault>
+        requires { Room 1 self.old }
+        ensures { Asks H.Host T.Terminal (Calls.to_host (Calls.routine number state previous)) self.old result self.new }
+    {
+        let reply = self.host.routine(number, state, previous);
+        let answer = reply.map_or_else(Answer::Fault, |()| Answer::Nothing);
+        self.record(CallKind::Routine, 0, u32::from(number), answer);
         reply
     }
 

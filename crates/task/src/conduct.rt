@@ -38,17 +38,19 @@ impl Work for Control {
     }
 }
 
-// A poll of the child.
+// A poll of the child, which a restart may follow.
 #[derive(Drop)]
-struct Polling;
+struct Polling {
+    restart: bool,
+}
 
 impl Work for Polling {
     type Found = PollOutcome;
 
-    ghost tree = { λ _. Tree.poll_child };
+    ghost tree = { λ polling. Tree.poll_child polling.restart };
 
     fn run<H: Host, T: Terminal>(self, step: &mut Step<'_, '_, '_, '_, H, T>) -> PollOutcome {
-        step.poll_child()
+        step.poll_child(self.restart)
     }
 }
 
@@ -98,15 +100,16 @@ pub fn control<H: Host, T: Terminal>(
     conduct(task, host, terminal, sheet, control, time)
 }
 
-// Polls the child; what was found, and how many records were written. None where the sheet has fewer than 8 places.
+// Polls the child, and starts another one at its end if a restart is remembered; what was found, and how many records were written. None where the sheet has fewer than 8 places.
 pub fn poll<H: Host, T: Terminal>(
     task: &mut Task,
     host: &mut H,
     terminal: &mut T,
     sheet: &mut [Record],
+    restart: bool,
     time: u64,
 ) -> Option<(PollOutcome, usize)>
-    ensures { Offered H.Host T.Terminal (Tree.poll_child time (task_view task.old)) task.old (record { host = host.old; terminal = terminal.old }) sheet.old result task.new (record { host = host.new; terminal = terminal.new }) sheet.new }
+    ensures { Offered H.Host T.Terminal (Tree.poll_child restart time (task_view task.old)) task.old (record { host = host.old; terminal = terminal.old }) sheet.old result task.new (record { host = host.new; terminal = terminal.new }) sheet.new }
 {
-    conduct(task, host, terminal, sheet, Polling, time)
+    conduct(task, host, terminal, sheet, Polling { restart }, time)
 }

@@ -3,7 +3,9 @@
 
 mod asking;
 pub mod conduct;
+mod controls;
 pub mod messages;
 mod parts;
+mod polling;
 mod step;
 pub mod task;

@@ -1,4 +1,4 @@
-// The parts that controls are made of, and the controls.
+// The parts that controls and the poll of the child are made of.
 ghost use Rattle.std.specs.Prelude.{◌≡◌, Some};
 ghost use Rattle.task.specs.Performs.{Performs, Room, task_of};
 ghost use Rattle.task.specs.Task as Tree;
@@ -22,7 +22,7 @@ impl Task {
     }
 
     // Takes the end of the child that ran since `started`.
-    fn finish(&mut self, end: ProcessEnd, started: u64, finished: u64)
+    pub(crate) fn finish(&mut self, end: ProcessEnd, started: u64, finished: u64)
         ensures { task_view self.new ≡ Tree.in_state (CommandState.Finished end started finished) (task_view self.old) }
     {
         self.state = CommandState::Finished {
@@ -46,22 +46,10 @@ impl Task {
     }
 }
 
-// What ending a child by force means for the ticket.
-impl From<Result<(), Fault>> for Outcome {
-    ghost from_gives = { λ forced outcome. outcome ≡ Tree.forced forced };
-
-    fn from(forced: Result<(), Fault>) -> Outcome {
-        match forced {
-            Ok(()) => Outcome::Ended,
-            Err(_) => Outcome::Settled,
-        }
-    }
-}
-
 // `Room n` is no invariant of `Step`: each part needs room for a number of records of its own.
 impl<H: Host, T: Terminal> Step<'_, '_, '_, '_, H, T> {
     // Forgets a pause, and continues the child.
-    fn resume(&mut self)
+    pub(crate) fn resume(&mut self)
         requires { Room 1 self.old }
         ensures { Performs H.Host T.Terminal 1 (Tree.resume (task_of self.old)) self.old (task_of self.new) self.new }
     {
@@ -75,7 +63,7 @@ impl<H: Host, T: Terminal> Step<'_, '_, '_, '_, H, T> {
     }
 
     // Ends the watch, and releases a held grant.
-    fn yield_foreground(&mut self)
+    pub(crate) fn yield_foreground(&mut self)
         requires { Room 1 self.old }
         ensures { Performs H.Host T.Terminal 1 (Tree.yield (task_of self.old)) self.old (task_of self.new) self.new }
     {
@@ -87,7 +75,7 @@ impl<H: Host, T: Terminal> Step<'_, '_, '_, '_, H, T> {
     }
 
     // Kills the child and waits for its end, which is then the state.
-    fn end_by_force(&mut self, child: u32, started: u64) -> Result<(), Fault>
+    pub(crate) fn end_by_force(&mut self, child: u32, started: u64) -> Result<(), Fault>
         requires { Room 2 self.old }
         ensures { Performs H.Host T.Terminal 2 (Tree.end_by_force child started self.old.time (task_of self.old)) self.old (task_of self.new, result) self.new }
     {
@@ -113,7 +101,7 @@ impl<H: Host, T: Terminal> Step<'_, '_, '_, '_, H, T> {
     }
 
     // Spawns the command anew.
-    fn launch(&mut self) -> Result<(), Fault>
+    pub(crate) fn launch(&mut self) -> Result<(), Fault>
         requires { Room 2 self.old }
         ensures { Performs H.Host T.Terminal 2 (Tree.launch self.old.time (task_of self.old)) self.old (task_of self.new, result) self.new }
     {
@@ -131,92 +119,13 @@ impl<H: Host, T: Terminal> Step<'_, '_, '_, '_, H, T> {
     }
 
     // Tells a fault to the error handler, if one is set.
-    fn report(&mut self, outcome: Result<(), Fault>)
+    pub(crate) fn report(&mut self, outcome: Result<(), Fault>)
         requires { Room 1 self.old }
         ensures told { Performs H.Host T.Terminal 1 (Tree.told (task_of self.old).settings.handler outcome) self.old tt self.new }
         ensures task { self.new.task.now ≡ self.old.task.now }
     {
         if let (Some(handler), Err(fault)) = (self.task.settings.handler, outcome) {
             let _ = self.tell(handler, fault);
-        }
-    }
-
-    // Starts the command if no child runs.
-    fn start(&mut self) -> Outcome
-        requires { Room 3 self.old }
-        ensures { Performs H.Host T.Terminal 3 (Tree.control Control.Start self.old.time (task_of self.old)) self.old (task_of self.new, result) self.new }
-    {
-        if self.task.state.is_running() {
-            return Outcome::Settled;
-        }
-        let launched = self.launch();
-        self.report(launched);
-        Outcome::Settled
-    }
-
-    // Ends the child by force, if one runs; the pause and the terminal were seen to.
-    fn stop_child(&mut self) -> Outcome
-        requires { Room 3 self.old }
-        ensures { Performs H.Host T.Terminal 3 (Tree.stop_in (task_of self.old).state self.old.time (task_of self.old)) self.old (task_of self.new, result) self.new }
-    {
-        let CommandState::Running { child, started } = self.task.state else {
-            return Outcome::Settled;
-        };
-        let forced = self.end_by_force(child, started);
-        self.report(forced);
-        forced.into()
-    }
-
-    // Ends the child by force, if one runs.
-    fn stop(&mut self) -> Outcome
-        requires { Room 5 self.old }
-        ensures { Performs H.Host T.Terminal 5 (Tree.control Control.Stop self.old.time (task_of self.old)) self.old (task_of self.new, result) self.new }
-    {
-        self.resume();
-        self.yield_foreground();
-        self.stop_child()
-    }
-
-    // Carries a control out. It is a message from a queue, and so no closure.
-    pub(crate) fn carry_out(&mut self, control: Control) -> Outcome
-        requires { Room 7 self.old }
-        ensures { Performs H.Host T.Terminal 7 (Tree.control control self.old.time (task_of self.old)) self.old (task_of self.new, result) self.new }
-    {
-        match control {
-            Control::Start => self.start(),
-            Control::Stop => self.stop(),
-            Control::NextEnding if self.task.state.is_running() => Outcome::Joined,
-            Control::NextEnding => Outcome::Settled,
-        }
-    }
-
-    // What a poll of the running child found: it goes on, or it has ended, which is then its state.
-    fn after_poll(&mut self, started: u64, end: Option<ProcessEnd>) -> PollOutcome
-        requires { Room 1 self.old }
-        ensures { Performs H.Host T.Terminal 1 (Tree.polled started self.old.time (task_of self.old) (Ok end)) self.old (task_of self.new, result) self.new }
-    {
-        let Some(end) = end else {
-            return PollOutcome::Idle;
-        };
-        self.task.finish(end, started, self.time);
-        self.yield_foreground();
-        PollOutcome::Over
-    }
-
-    // Polls the child, if one runs.
-    pub(crate) fn poll_child(&mut self) -> PollOutcome
-        requires { Room 2 self.old }
-        ensures { Performs H.Host T.Terminal 2 (Tree.poll_child self.old.time (task_of self.old)) self.old (task_of self.new, result) self.new }
-    {
-        let CommandState::Running { child, started } = self.task.state else {
-            return PollOutcome::Idle;
-        };
-        match self.poll(child) {
-            Ok(end) => self.after_poll(started, end),
-            Err(fault) => {
-                self.report(Err(fault));
-                PollOutcome::Faulted
-            }
         }
     }
 }

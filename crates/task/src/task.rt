@@ -1,4 +1,5 @@
 // The task of a job: what it holds, and what becomes of a control and of a poll.
+use crate::messages::GraceEnd;
 use host::command::Command;
 use host::state::CommandState;
 use ring::queue::Queue;
@@ -38,8 +39,12 @@ pub enum Outcome {
     Settled,
     // The child was ended: the ending list is raised, and then the ticket.
     Ended,
+    // It waits in the timer while a grace runs.
+    Graced { grace: u32, end: GraceEnd },
     // It joins the ending list.
     Joined,
+    // It is raised, and the job is closed.
+    Closes,
 }
 
 // What a poll of the child found.
@@ -51,4 +56,6 @@ pub enum PollOutcome {
     Faulted,
     // The child has ended.
     Over,
+    // The child has ended, and the restart that was remembered started another one.
+    Renewed,
 }

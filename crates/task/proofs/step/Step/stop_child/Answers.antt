@@ -12,4 +12,4 @@ returns g c =
     let part = Tree.end_by_force c.in-Running.child c.in-Running.started s.time (task_of s) in
     at_value (λ (state : CommandState). Tree.stop_in state s.time (task_of s)) (sym c.in-Running.is)
     (and_then (Tree.reported part) _ (telling part c.end_by_force-forced.ensures c.report.ensures.told)
-    (still_at (rw (c.report.ensures.task, c.into.ensures))))
+    (still_at (rw (c.report.ensures.task, c.unless_faulted.ensures))))
