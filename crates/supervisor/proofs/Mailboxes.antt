@@ -20,9 +20,9 @@ use Rattle.supervisor.specs.Sound.{weigh_messages, weigh_queues, Balanced, InOrd
 
 -- the ticket in hand is raised
 raise_in : (t : ℕ) (hand : List ℕ) (m : MailboxView) → InOrder (t ∷ hand) m → InOrder hand (raised t m)
-raise_in t hand m h = grind (arith, nat_tests, h.balance (one_at t), raise_waiting, raise-taken t m.table, change-length)
+raise_in t hand m h = grind (arith, nat_tests, h.balance (one_at t), raise_waiting, raise-taken t m.tickets.table, change-length)
 
-raise_each_in : (ts hand : List ℕ) (m : MailboxView) → InOrder (ts ++ hand) m → InOrder hand (with_table (raise_each ts m.table) m)
+raise_each_in : (ts hand : List ℕ) (m : MailboxView) → InOrder (ts ++ hand) m → InOrder hand (with_table (raise_each ts m.tickets.table) m)
 raise_each_in [] hand m h = h
 raise_each_in (t ∷ ts) hand m h = raise_each_in ts hand (raised t m) (raise_in t (ts ++ hand) m h)
 
@@ -62,7 +62,7 @@ admit_in p c held m h e = grind (arith, nat_tests, weigh_enqueued, put-weight, c
 -- COLLECTING
 
 -- a raised ticket is collected
-pub vacate_in : (t : ℕ) (m : MailboxView) → InOrder [] m → found t m.table ≡ Some Raised → InOrder [] (vacated t m)
+pub vacate_in : (t : ℕ) (m : MailboxView) → InOrder [] m → found t m.tickets.table ≡ Some Raised → InOrder [] (vacated t m)
 vacate_in t m h r =
-    let balance : Balanced [] (vacated t m) = λ w. h.balance w ∙ sym (vacate_waiting t m.table r w) in
-    grind (arith, vacate-taken t m.table, change-length)
+    let balance : Balanced [] (vacated t m) = λ w. h.balance w ∙ sym (vacate_waiting t m.tickets.table r w) in
+    grind (arith, vacate-taken t m.tickets.table, change-length)

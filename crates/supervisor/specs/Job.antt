@@ -69,7 +69,7 @@ runs v = not v.closed && is_running v.task.state
 
 abbrev pub sent : Result ⊤ Refusal → Priority → Control → JobView → JobView × Result ℕ Refusal
 sent (Err r) p c v = (v, Err r)
-sent (Ok u) p c v = (with_mailbox (Mail.admitted p c true v.mailbox) v, Ok (v.mailbox.issued + 1))
+sent (Ok u) p c v = (with_mailbox (Mail.admitted p c true v.mailbox) v, Ok (v.mailbox.tickets.issued + 1))
 
 -- a closed job answers ticket 0; an open one refuses what lacks room, or gives the next ticket
 abbrev pub send : Priority → Control → JobView → JobView × Result ℕ Refusal
@@ -84,7 +84,7 @@ looked closed (Some Raised) = Ok true
 looked closed mark = Err Unknown
 
 abbrev pub look : ℕ → JobView → Result Bool Refusal
-look ticket v = if ticket == 0 then Ok true else looked v.closed (found ticket v.mailbox.table)
+look ticket v = if ticket == 0 then Ok true else looked v.closed (found ticket v.mailbox.tickets.table)
 
 abbrev pub collected : Result Bool Refusal → ℕ → JobView → JobView × Result ⊤ Refusal
 collected (Ok true) ticket v = (with_mailbox (Mail.vacated ticket v.mailbox) v, Ok tt)
@@ -93,7 +93,7 @@ collected (Err r) ticket v = (v, Err r)
 
 -- what a look calls done is collected; ticket 0 has no place to free
 abbrev pub collect : ℕ → JobView → JobView × Result ⊤ Refusal
-collect ticket v = if ticket == 0 then (v, Ok tt) else collected (looked v.closed (found ticket v.mailbox.table)) ticket v
+collect ticket v = if ticket == 0 then (v, Ok tt) else collected (looked v.closed (found ticket v.mailbox.tickets.table)) ticket v
 
 -- STEPS
 

@@ -20,19 +20,19 @@ weigh_waiting w m = weigh_queues w m.queues + weigh w m.ending
 -- the tickets in hand, and those that wait in a queue or in the ending list, are those that wait in the table, each as often:
 -- their weights are equal, whatever a ticket weighs
 abbrev pub Balanced : List ℕ → MailboxView → Type 0
-Balanced hand m = (w : ℕ → ℕ) → weigh w hand + weigh_waiting w m ≡ weight is_waiting w m.table
+Balanced hand m = (w : ℕ → ℕ) → weigh w hand + weigh_waiting w m ≡ weight is_waiting w m.tickets.table
 
 -- a ticket has at most one place in the table
 abbrev pub Once : MailboxView → Type 0
-Once m = (s : ℕ) → weight is_taken (one_at s) m.table ≤ 1
+Once m = (s : ℕ) → weight is_taken (one_at s) m.tickets.table ≤ 1
 
 -- and none before it is issued
 abbrev pub Later : MailboxView → Type 0
-Later m = (s : ℕ) → m.issued < s → weight is_taken (one_at s) m.table ≡ 0
+Later m = (s : ℕ) → m.tickets.issued < s → weight is_taken (one_at s) m.tickets.table ≡ 0
 
 -- the table has its 256 places
 abbrev pub Full : MailboxView → Type 0
-Full m = length m.table ≡ 256
+Full m = length m.tickets.table ≡ 256
 
 -- the mailbox is in order while the tickets `hand` are in hand
 pub record InOrder (hand : List ℕ) (m : MailboxView) : Type 0 where

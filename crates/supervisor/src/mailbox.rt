@@ -90,7 +90,7 @@ impl Mailbox {
     // Gives a control the next ticket, held or not, and adds it to its queue.
     pub(crate) fn admit(&mut self, priority: Priority, control: Control, held: bool) -> u32
         requires { Mail.may_send priority (mailbox_view self.old) ≡ Ok tt }
-        ensures ticket { result ≡ (mailbox_view self.old).issued + 1 }
+        ensures ticket { result ≡ (mailbox_view self.old).tickets.issued + 1 }
         ensures after { mailbox_view self.new ≡ Mail.admitted priority control held (mailbox_view self.old) }
     {
         let ticket = self.tickets.issue(held).unwrap();

@@ -112,7 +112,7 @@ impl Job {
 
     // Whether a held ticket is raised, or the job is closed.
     fn is_done(&self, ticket: u32) -> Result<bool, Refusal>
-        ensures { result ≡ Spec.looked (job_view self.now).closed (found ticket (job_view self.now).mailbox.table) }
+        ensures { result ≡ Spec.looked (job_view self.now).closed (found ticket (job_view self.now).mailbox.tickets.table) }
     {
         match self.mailbox.tickets.mark(ticket) {
             None | Some(Mark::Unheld) => Err(Refusal::Unknown),

@@ -8,4 +8,4 @@ pub invariant_of-self-clause-in_order : goal.invariant_of-self-clause-in_order
 invariant_of-self-clause-in_order c e = rw c.vacate.ensures (vacate_in _ _ (c.args.self.now.in_order e) (grind arith))
 
 pub invariant_of-self-clause-full : goal.invariant_of-self-clause-full
-invariant_of-self-clause-full c = ap (λ m. length m.table) c.vacate.ensures ∙ change-length _ _ _ ∙ c.args.self.now.full
+invariant_of-self-clause-full c = ap (λ m. length m.tickets.table) c.vacate.ensures ∙ change-length _ _ _ ∙ c.args.self.now.full
