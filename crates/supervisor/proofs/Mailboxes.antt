@@ -1,5 +1,5 @@
 -- The mailbox stays in order: sending, taking, raising and collecting keep its tickets in balance.
-use Rattle.std.proofs.Common.{◌≡◌, ℕ, ◌+◌, ◌<◌, Bool, Some, Ok, List, [], ◌∷◌, ◌++◌, length, sym, refl, ◌∙◌, arith}
+use Rattle.std.proofs.Common.{◌≡◌, ℕ, ◌+◌, ◌<◌, Some, List, [], ◌∷◌, ◌++◌, length, sym, refl, ◌∙◌, arith}
 use Rattle.std.proofs.lemmas.Bool.Decides.{nat_tests}
 use Rattle.std.proofs.lemmas.Grind.{common_steps}
 use Rattle.std.proofs.lemmas.List.Recursion.{is_sum_by}
@@ -13,7 +13,7 @@ use Rattle.supervisor.specs.declared.priority.Priority.{Priority}
 use Rattle.task.specs.declared.task.Outcome.{Outcome}
 use Rattle.task.specs.declared.task.Outcome.TheVariants.{Settled, Ended, Joined}
 use Rattle.task.specs.declared.task.PollOutcome.{PollOutcome}
-use Rattle.supervisor.specs.Mailbox.{QueuesView, MailboxView, with_queues, with_table, enqueued, may_send, admitted, take, raised, endings_raised, settle, after_poll, vacated}
+use Rattle.supervisor.specs.Mailbox.{QueuesView, MailboxView, with_queues, with_table, enqueued, send, take, raised, endings_raised, settle, after_poll, vacated}
 use Rattle.supervisor.specs.Sound.{weigh_messages, weigh_queues, Balanced, InOrder}
 
 -- RAISING
@@ -55,9 +55,9 @@ ending_room t m h = grind (arith, h.balance each, weigh-each, waiting_few)
 weigh_enqueued : (p : Priority) (w : ℕ → ℕ) (c : ControlMessage) (q : QueuesView) → weigh_queues w (enqueued p c q) ≡ weigh_queues w q + w c.ticket
 weigh_enqueued p w c q = grind (arith, common_steps, is_sum_by (weigh_messages w) (λ x. w x.ticket) refl (λ _ _. refl))
 
--- a control is sent, where nothing is lacking
-pub admit_in : (p : Priority) (c : Control) (held : Bool) (m : MailboxView) → InOrder [] m → may_send p m ≡ Ok tt → InOrder [] (admitted p c held m)
-admit_in p c held m h e = grind (arith, nat_tests, weigh_enqueued, put-weight, change-length)
+-- a control is sent
+pub send_in : (p : Priority) (c : Control) (m : MailboxView) → InOrder [] m → InOrder [] (send p c m).0
+send_in p c m h = grind (arith, nat_tests, weigh_enqueued, put-weight, change-length)
 
 -- COLLECTING
 

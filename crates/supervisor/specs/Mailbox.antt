@@ -1,5 +1,5 @@
 -- The mailbox of a job: how messages are sent and taken, and what becomes of tickets.
-use Rattle.std.specs.Prelude.{ℕ, ◌+◌, Bool, if◌then◌else◌, not, List, [], ◌∷◌, ◌++◌, length, Some, None, Ok, Err, Option, Result, nat_lt, ⊤}
+use Rattle.std.specs.Prelude.{ℕ, ◌+◌, Bool, true, if◌then◌else◌, not, List, [], ◌∷◌, ◌++◌, length, Some, None, Ok, Err, Option, Result, nat_lt, ⊤}
 use Rattle.tickets.specs.Tickets.{TicketsView, Table, fresh, give, raise, raise_each, ticket_room, vacate}
 use Rattle.supervisor.specs.declared.errors.Refusal.{Refusal}
 use Rattle.supervisor.specs.declared.errors.Refusal.TheVariants.{Queue, Tickets}
@@ -58,16 +58,24 @@ serial_room m = ticket_room 1 m.tickets.issued m.tickets.table
 abbrev pub message : Control → ℕ → ControlMessage
 message control ticket = record { control = control; ticket = ticket }
 
--- the control gets the next ticket, held or not, and waits in its queue
-abbrev pub admitted : Priority → Control → Bool → MailboxView → MailboxView
-admitted p c held m = record m {
+-- the control gets the next ticket, held, and waits in its queue
+abbrev pub admitted : Priority → Control → MailboxView → MailboxView
+admitted p c m = record m {
   queues = enqueued p (message c (m.tickets.issued + 1)) m.queues;
-  tickets = give (m.tickets.issued + 1) held m.tickets;
+  tickets = give (m.tickets.issued + 1) true m.tickets;
 }
 
 -- a send may be made, or lacks something
 abbrev pub may_send : Priority → MailboxView → Result ⊤ Refusal
 may_send p m = if not (queue_room p m.queues) then Err Queue else if serial_room m then Ok tt else Err Tickets
+
+abbrev pub sent : Result ⊤ Refusal → Priority → Control → MailboxView → MailboxView × Result ℕ Refusal
+sent (Err r) p c m = (m, Err r)
+sent (Ok u) p c m = (admitted p c m, Ok (m.tickets.issued + 1))
+
+-- a send is refused for what it lacks and changes nothing, or its control is admitted and its ticket answered
+abbrev pub send : Priority → Control → MailboxView → MailboxView × Result ℕ Refusal
+send p c m = sent (may_send p m) p c m
 
 -- TAKING
 

@@ -82,9 +82,7 @@ impl Job {
         if self.closed {
             return Ok(0);
         }
-        let priority = send.priority();
-        self.mailbox.may_send(priority)?;
-        Ok(self.mailbox.admit(priority, send.control(), true))
+        self.mailbox.send(send.priority(), send.control())
     }
 
     // The sends have the names of the Rust, so each is a method of its own.
