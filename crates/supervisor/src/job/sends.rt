@@ -82,7 +82,7 @@ impl Job {
         if self.closed {
             return Ok(0);
         }
-        self.mailbox.send(send.priority(), send.control())
+        self.mailbox.send(send.priority(), send.into())
     }
 
     // The sends have the names of the Rust, so each is a method of its own.
