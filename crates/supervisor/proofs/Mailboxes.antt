@@ -1,8 +1,6 @@
 -- The mailbox stays in order: sending, taking, raising and collecting keep its tickets in balance.
-use Rattle.std.proofs.Common.{◌≡◌, ℕ, ◌+◌, ◌<◌, Some, List, [], ◌∷◌, ◌++◌, length, sym, refl, ◌∙◌, arith}
-use Rattle.std.proofs.lemmas.Bool.Decides.{nat_tests}
+use Rattle.std.proofs.Common.{◌≡◌, ℕ, ◌+◌, ◌<◌, Some, List, [], ◌∷◌, ◌++◌, length, sym, ◌∙◌, arith}
 use Rattle.std.proofs.lemmas.Grind.{common_steps}
-use Rattle.std.proofs.lemmas.List.Recursion.{is_sum_by}
 use Rattle.tickets.specs.declared.flag.Mark.TheVariants.{Raised}
 use Rattle.tickets.specs.Tickets.{raise_each, found}
 use Rattle.tickets.specs.Weights.{one_at, each}
@@ -14,13 +12,13 @@ use Rattle.task.specs.declared.task.Outcome.{Outcome}
 use Rattle.task.specs.declared.task.Outcome.TheVariants.{Settled, Ended, Joined}
 use Rattle.task.specs.declared.task.PollOutcome.{PollOutcome}
 use Rattle.supervisor.specs.Mailbox.{QueuesView, MailboxView, with_queues, with_table, enqueued, send, take, raised, endings_raised, settle, after_poll, vacated}
-use Rattle.supervisor.specs.Sound.{weigh_messages, weigh_queues, Balanced, InOrder}
+use Rattle.supervisor.specs.Sound.{weigh_queues, Balanced, InOrder}
 
 -- RAISING
 
 -- the ticket in hand is raised
 raise_in : (t : ℕ) (hand : List ℕ) (m : MailboxView) → InOrder (t ∷ hand) m → InOrder hand (raised t m)
-raise_in t hand m h = grind (arith, nat_tests, h.balance (one_at t), raise_waiting, raise-taken t m.tickets.table, change-length)
+raise_in t hand m h = grind (arith, h.balance (one_at t), raise_waiting, raise-taken t m.tickets.table, change-length)
 
 raise_each_in : (ts hand : List ℕ) (m : MailboxView) → InOrder (ts ++ hand) m → InOrder hand (with_table (raise_each ts m.tickets.table) m)
 raise_each_in [] hand m h = h
@@ -53,11 +51,11 @@ ending_room t m h = grind (arith, h.balance each, weigh-each, waiting_few)
 -- SENDING
 
 weigh_enqueued : (p : Priority) (w : ℕ → ℕ) (c : ControlMessage) (q : QueuesView) → weigh_queues w (enqueued p c q) ≡ weigh_queues w q + w c.ticket
-weigh_enqueued p w c q = grind (arith, common_steps, is_sum_by (weigh_messages w) (λ x. w x.ticket) refl (λ _ _. refl))
+weigh_enqueued p w c q = grind (arith, common_steps, weigh-append)
 
 -- a control is sent
 pub send_in : (p : Priority) (c : Control) (m : MailboxView) → InOrder [] m → InOrder [] (send p c m).0
-send_in p c m h = grind (arith, nat_tests, weigh_enqueued, put-weight, change-length)
+send_in p c m h = grind (arith, weigh_enqueued, put-weight, change-length)
 
 -- COLLECTING
 

@@ -1,5 +1,5 @@
 -- What holds of every job that exists, whatever host and terminal it was lent.
-use Rattle.std.specs.Prelude.{◌≡◌, ℕ, ◌+◌, ◌<◌, ◌≤◌, List, [], ◌∷◌, length}
+use Rattle.std.specs.Prelude.{◌≡◌, ℕ, ◌+◌, ◌<◌, ◌≤◌, List, length, map}
 use Rattle.tickets.specs.Tickets.{is_waiting, is_taken}
 use Rattle.tickets.specs.Weights.{weight, weigh, one_at}
 use Rattle.task.specs.declared.messages.ControlMessage.{ControlMessage}
@@ -7,8 +7,7 @@ use Rattle.supervisor.specs.Mailbox.{QueuesView, MailboxView}
 
 -- the weight of the tickets of messages, where a ticket t weighs w t
 abbrev pub weigh_messages : (ℕ → ℕ) → List ControlMessage → ℕ
-weigh_messages w [] = 0
-weigh_messages w (c ∷ cs) = w c.ticket + weigh_messages w cs
+weigh_messages w cs = weigh w (map (λ c. c.ticket) cs)
 
 abbrev pub weigh_queues : (ℕ → ℕ) → QueuesView → ℕ
 weigh_queues w q = weigh_messages w q.normal + weigh_messages w q.high + weigh_messages w q.urgent
