@@ -13,7 +13,7 @@ use Rattle.supervisor.proofs.Mailboxes.{send_in}
 use Rattle.supervisor.proofs.job.Job.send.Goals as goal
 
 -- a job whose mailbox is the same where a send is refused is then the same
-kept : (r : Result ℕ Refusal) (j : Job) (m : Mailbox) → OnErr r (m ≡ j.mailbox) → (o : j.closed ≡ false → InOrder [] (mailbox_view m)) (f : Full (mailbox_view m)) (g : Granted (task_view j.task)) (t : j.clock ≤ 2 ^ 62) → OnErr r (record { closed = j.closed; task = j.task; mailbox = m; clock = j.clock; in_order = o; full = f; granted = g; timely = t } ≡ j)
+kept : (r : Result ℕ Refusal) (j : Job) (m : Mailbox) → OnErr r (m ≡ j.mailbox) → (o : j.closed ≡ false → InOrder [] (mailbox_view m)) (f : Full (mailbox_view m)) (g : Granted (task_view j.task)) (t : j.clock ≤ 2 ^ 62) → OnErr r (record j { mailbox = m; in_order = o; full = f; granted = g; timely = t } ≡ j)
 kept (Ok x) j m e = λ _ _ _ _. tt
 kept (Err x) j m e = rw e (λ o f g t.
     let p : o ≡ j.in_order = hlevel props in
