@@ -43,7 +43,7 @@ impl NoRoom {
 impl Host for NoRoom {
     const MOST: usize = 0;
 
-    ghost most = { 0 };
+    ghost MOST = { 0 };
 
     ghost book = { λ h. record { roster = []; served = h.served.0; spawns = h.spawns.0 } };
 
@@ -52,10 +52,6 @@ impl Host for NoRoom {
     ghost keeps = { Prim.search rules };
 
     ghost bounded = { Prim.search rules };
-
-    fn capacity() -> usize {
-        0
-    }
 
     fn is_full(&self) -> bool {
         true
@@ -142,9 +138,9 @@ impl Terminal for NoTerminal {
         1
     }
 
-    fn owner(&mut self) -> u32 {
+    fn owner(&mut self) -> Option<u32> {
         self.served += Wrapping(1);
-        0
+        None
     }
 
     fn acquire(&mut self, _group: u32) -> Result<(), Fault> {
