@@ -1,8 +1,6 @@
 -- The mailbox stays in order: sending, taking, raising and collecting keep its tickets in balance.
-use Rattle.std.proofs.Common.{◌≡◌, ℕ, ◌+◌, ◌<◌, Bool, Some, Ok, List, [], ◌∷◌, ◌++◌, length, sym, refl, ◌∙◌, arith}
-use Rattle.std.proofs.lemmas.Bool.Decides.{nat_tests}
+use Rattle.std.proofs.Common.{◌≡◌, ℕ, ◌+◌, ◌<◌, Some, List, [], ◌∷◌, ◌++◌, length, sym, ◌∙◌, arith}
 use Rattle.std.proofs.lemmas.Grind.{common_steps}
-use Rattle.std.proofs.lemmas.List.Recursion.{is_sum_by}
 use Rattle.tickets.specs.declared.flag.Mark.TheVariants.{Raised}
 use Rattle.tickets.specs.Tickets.{raise_each, found}
 use Rattle.tickets.specs.Weights.{one_at, each}
@@ -13,16 +11,16 @@ use Rattle.supervisor.specs.declared.priority.Priority.{Priority}
 use Rattle.task.specs.declared.task.Outcome.{Outcome}
 use Rattle.task.specs.declared.task.Outcome.TheVariants.{Settled, Ended, Joined}
 use Rattle.task.specs.declared.task.PollOutcome.{PollOutcome}
-use Rattle.supervisor.specs.Mailbox.{QueuesView, MailboxView, with_queues, with_table, enqueued, may_send, admitted, take, raised, endings_raised, settle, after_poll, vacated}
-use Rattle.supervisor.specs.Sound.{weigh_messages, weigh_queues, Balanced, InOrder}
+use Rattle.supervisor.specs.Mailbox.{QueuesView, MailboxView, with_queues, with_table, enqueued, send, take, raised, endings_raised, settle, after_poll, vacated}
+use Rattle.supervisor.specs.Sound.{weigh_queues, Balanced, InOrder}
 
 -- RAISING
 
 -- the ticket in hand is raised
 raise_in : (t : ℕ) (hand : List ℕ) (m : MailboxView) → InOrder (t ∷ hand) m → InOrder hand (raised t m)
-raise_in t hand m h = grind (arith, nat_tests, h.balance (one_at t), raise_waiting, raise-taken t m.table, change-length)
+raise_in t hand m h = grind (arith, h.balance (one_at t), raise_waiting, raise-taken t m.tickets.table, change-length)
 
-raise_each_in : (ts hand : List ℕ) (m : MailboxView) → InOrder (ts ++ hand) m → InOrder hand (with_table (raise_each ts m.table) m)
+raise_each_in : (ts hand : List ℕ) (m : MailboxView) → InOrder (ts ++ hand) m → InOrder hand (with_table (raise_each ts m.tickets.table) m)
 raise_each_in [] hand m h = h
 raise_each_in (t ∷ ts) hand m h = raise_each_in ts hand (raised t m) (raise_in t (ts ++ hand) m h)
 
@@ -53,16 +51,16 @@ ending_room t m h = grind (arith, h.balance each, weigh-each, waiting_few)
 -- SENDING
 
 weigh_enqueued : (p : Priority) (w : ℕ → ℕ) (c : ControlMessage) (q : QueuesView) → weigh_queues w (enqueued p c q) ≡ weigh_queues w q + w c.ticket
-weigh_enqueued p w c q = grind (arith, common_steps, is_sum_by (weigh_messages w) (λ x. w x.ticket) refl (λ _ _. refl))
+weigh_enqueued p w c q = grind (arith, common_steps, weigh-append)
 
--- a control is sent, where nothing is lacking
-pub admit_in : (p : Priority) (c : Control) (held : Bool) (m : MailboxView) → InOrder [] m → may_send p m ≡ Ok tt → InOrder [] (admitted p c held m)
-admit_in p c held m h e = grind (arith, nat_tests, weigh_enqueued, put-weight, change-length)
+-- a control is sent
+pub send_in : (p : Priority) (c : Control) (m : MailboxView) → InOrder [] m → InOrder [] (send p c m).0
+send_in p c m h = grind (arith, weigh_enqueued, put-weight, change-length)
 
 -- COLLECTING
 
 -- a raised ticket is collected
-pub vacate_in : (t : ℕ) (m : MailboxView) → InOrder [] m → found t m.table ≡ Some Raised → InOrder [] (vacated t m)
+pub vacate_in : (t : ℕ) (m : MailboxView) → InOrder [] m → found t m.tickets.table ≡ Some Raised → InOrder [] (vacated t m)
 vacate_in t m h r =
-    let balance : Balanced [] (vacated t m) = λ w. h.balance w ∙ sym (vacate_waiting t m.table r w) in
-    grind (arith, vacate-taken t m.table, change-length)
+    let balance : Balanced [] (vacated t m) = λ w. h.balance w ∙ sym (vacate_waiting t m.tickets.table r w) in
+    grind (arith, vacate-taken t m.tickets.table, change-length)

@@ -1,5 +1,5 @@
 -- The job: what it holds, how it is made, its sends, looks and collects, and its steps.
-use Rattle.std.specs.Prelude.{ℕ, ◌+◌, ◌^◌, Bool, true, false, if◌then◌else◌, not, ◌&&◌, [], Some, None, Ok, Err, Option, Result, ◌==◌, nat_le, nat_lt, ⊤}
+use Rattle.std.specs.Prelude.{ℕ, ◌^◌, Bool, true, false, if◌then◌else◌, not, ◌&&◌, [], Some, None, Ok, Err, Option, Result, ◌==◌, nat_le, nat_lt, ⊤}
 use Rattle.host.specs.declared.command.SpawnOptions.{SpawnOptions}
 use Rattle.host.specs.declared.command.Command.{Command}
 use Rattle.host.specs.declared.state.CommandState.TheVariants.{Pending}
@@ -67,13 +67,12 @@ runs v = not v.closed && is_running v.task.state
 
 -- SENDS
 
-abbrev pub sent : Result ⊤ Refusal → Priority → Control → JobView → JobView × Result ℕ Refusal
-sent (Err r) p c v = (v, Err r)
-sent (Ok u) p c v = (with_mailbox (Mail.admitted p c true v.mailbox) v, Ok (v.mailbox.issued + 1))
+abbrev pub sent : MailboxView × Result ℕ Refusal → JobView → JobView × Result ℕ Refusal
+sent (m, r) v = (with_mailbox m v, r)
 
 -- a closed job answers ticket 0; an open one refuses what lacks room, or gives the next ticket
 abbrev pub send : Priority → Control → JobView → JobView × Result ℕ Refusal
-send p c v = if v.closed then (v, Ok 0) else sent (Mail.may_send p v.mailbox) p c v
+send p c v = if v.closed then (v, Ok 0) else sent (Mail.send p c v.mailbox) v
 
 -- LOOK AND COLLECT
 
@@ -84,7 +83,7 @@ looked closed (Some Raised) = Ok true
 looked closed mark = Err Unknown
 
 abbrev pub look : ℕ → JobView → Result Bool Refusal
-look ticket v = if ticket == 0 then Ok true else looked v.closed (found ticket v.mailbox.table)
+look ticket v = if ticket == 0 then Ok true else looked v.closed (found ticket v.mailbox.tickets.table)
 
 abbrev pub collected : Result Bool Refusal → ℕ → JobView → JobView × Result ⊤ Refusal
 collected (Ok true) ticket v = (with_mailbox (Mail.vacated ticket v.mailbox) v, Ok tt)
@@ -93,7 +92,7 @@ collected (Err r) ticket v = (v, Err r)
 
 -- what a look calls done is collected; ticket 0 has no place to free
 abbrev pub collect : ℕ → JobView → JobView × Result ⊤ Refusal
-collect ticket v = if ticket == 0 then (v, Ok tt) else collected (looked v.closed (found ticket v.mailbox.table)) ticket v
+collect ticket v = if ticket == 0 then (v, Ok tt) else collected (looked v.closed (found ticket v.mailbox.tickets.table)) ticket v
 
 -- STEPS
 

@@ -1,6 +1,6 @@
 -- The mailbox of a job: how messages are sent and taken, and what becomes of tickets.
-use Rattle.std.specs.Prelude.{ℕ, ◌+◌, Bool, if◌then◌else◌, not, List, [], ◌∷◌, ◌++◌, length, replicate, Some, None, Ok, Err, Option, Result, nat_lt, ⊤}
-use Rattle.tickets.specs.Tickets.{Table, raise, raise_each, put, new_mark, ticket_room, vacate}
+use Rattle.std.specs.Prelude.{ℕ, ◌+◌, Bool, true, if◌then◌else◌, not, List, [], ◌∷◌, ◌++◌, length, Some, None, Ok, Err, Option, Result, nat_lt, ⊤}
+use Rattle.tickets.specs.Tickets.{TicketsView, Table, fresh, give, raise, raise_each, ticket_room, vacate}
 use Rattle.supervisor.specs.declared.errors.Refusal.{Refusal}
 use Rattle.supervisor.specs.declared.errors.Refusal.TheVariants.{Queue, Tickets}
 use Rattle.task.specs.declared.messages.Control.{Control}
@@ -22,15 +22,13 @@ pub record MailboxView : Type 0 where
   pub queues : QueuesView
   -- the tickets that wait for the child's end
   pub ending : List ℕ
-  -- the last serial that was given out, and the ticket table
-  pub issued : ℕ
-  pub table : Table
+  pub tickets : TicketsView
 
 abbrev pub with_queues : QueuesView → MailboxView → MailboxView
 with_queues q m = record m { queues = q }
 
 abbrev pub with_table : Table → MailboxView → MailboxView
-with_table t m = record m { table = t }
+with_table t m = record m { tickets = record m.tickets { table = t } }
 
 -- SENDING
 
@@ -55,22 +53,29 @@ queue_room p q = nat_lt (length (queue_of p q)) (capacity p)
 
 -- one ticket more can be given
 abbrev pub serial_room : MailboxView → Bool
-serial_room m = ticket_room 1 m.issued m.table
+serial_room m = ticket_room 1 m.tickets.issued m.tickets.table
 
 abbrev pub message : Control → ℕ → ControlMessage
 message control ticket = record { control = control; ticket = ticket }
 
--- the control gets the next ticket, held or not, and waits in its queue
-abbrev pub admitted : Priority → Control → Bool → MailboxView → MailboxView
-admitted p c held m = record m {
-  queues = enqueued p (message c (m.issued + 1)) m.queues;
-  issued = m.issued + 1;
-  table = put (m.issued + 1) (new_mark held) m.table;
+-- the control gets the next ticket, held, and waits in its queue
+abbrev pub admitted : Priority → Control → MailboxView → MailboxView
+admitted p c m = record m {
+  queues = enqueued p (message c (m.tickets.issued + 1)) m.queues;
+  tickets = give (m.tickets.issued + 1) true m.tickets;
 }
 
 -- a send may be made, or lacks something
 abbrev pub may_send : Priority → MailboxView → Result ⊤ Refusal
 may_send p m = if not (queue_room p m.queues) then Err Queue else if serial_room m then Ok tt else Err Tickets
+
+abbrev pub sent : Result ⊤ Refusal → Priority → Control → MailboxView → MailboxView × Result ℕ Refusal
+sent (Err r) p c m = (m, Err r)
+sent (Ok u) p c m = (admitted p c m, Ok (m.tickets.issued + 1))
+
+-- a send is refused for what it lacks and changes nothing, or its control is admitted and its ticket answered
+abbrev pub send : Priority → Control → MailboxView → MailboxView × Result ℕ Refusal
+send p c m = sent (may_send p m) p c m
 
 -- TAKING
 
@@ -97,11 +102,11 @@ take q = take_urgent q.urgent q
 -- RAISING
 
 abbrev pub raised : ℕ → MailboxView → MailboxView
-raised ticket m = with_table (raise ticket m.table) m
+raised ticket m = with_table (raise ticket m.tickets.table) m
 
 -- each ticket of the ending list is raised, and the list is empty
 abbrev pub endings_raised : MailboxView → MailboxView
-endings_raised m = record m { ending = []; table = raise_each m.ending m.table }
+endings_raised m = record m { ending = []; tickets = record m.tickets { table = raise_each m.ending m.tickets.table } }
 
 -- what an outcome makes of the ticket of a control
 abbrev pub settle : Outcome → ℕ → MailboxView → MailboxView
@@ -116,8 +121,8 @@ after_poll outcome m = m
 
 -- the place of a ticket is freed
 abbrev pub vacated : ℕ → MailboxView → MailboxView
-vacated ticket m = with_table (vacate ticket m.table) m
+vacated ticket m = with_table (vacate ticket m.tickets.table) m
 
 -- an empty mailbox
 abbrev pub empty : MailboxView
-empty = record { queues = record { normal = []; high = []; urgent = [] }; ending = []; issued = 0; table = replicate 256 None }
+empty = record { queues = record { normal = []; high = []; urgent = [] }; ending = []; tickets = fresh }

@@ -1,5 +1,5 @@
 -- What holds of every job that exists, whatever host and terminal it was lent.
-use Rattle.std.specs.Prelude.{◌≡◌, ℕ, ◌+◌, ◌<◌, ◌≤◌, List, [], ◌∷◌, length}
+use Rattle.std.specs.Prelude.{◌≡◌, ℕ, ◌+◌, ◌<◌, ◌≤◌, List, length, map}
 use Rattle.tickets.specs.Tickets.{is_waiting, is_taken}
 use Rattle.tickets.specs.Weights.{weight, weigh, one_at}
 use Rattle.task.specs.declared.messages.ControlMessage.{ControlMessage}
@@ -7,8 +7,7 @@ use Rattle.supervisor.specs.Mailbox.{QueuesView, MailboxView}
 
 -- the weight of the tickets of messages, where a ticket t weighs w t
 abbrev pub weigh_messages : (ℕ → ℕ) → List ControlMessage → ℕ
-weigh_messages w [] = 0
-weigh_messages w (c ∷ cs) = w c.ticket + weigh_messages w cs
+weigh_messages w cs = weigh w (map (λ c. c.ticket) cs)
 
 abbrev pub weigh_queues : (ℕ → ℕ) → QueuesView → ℕ
 weigh_queues w q = weigh_messages w q.normal + weigh_messages w q.high + weigh_messages w q.urgent
@@ -20,19 +19,19 @@ weigh_waiting w m = weigh_queues w m.queues + weigh w m.ending
 -- the tickets in hand, and those that wait in a queue or in the ending list, are those that wait in the table, each as often:
 -- their weights are equal, whatever a ticket weighs
 abbrev pub Balanced : List ℕ → MailboxView → Type 0
-Balanced hand m = (w : ℕ → ℕ) → weigh w hand + weigh_waiting w m ≡ weight is_waiting w m.table
+Balanced hand m = (w : ℕ → ℕ) → weigh w hand + weigh_waiting w m ≡ weight is_waiting w m.tickets.table
 
 -- a ticket has at most one place in the table
 abbrev pub Once : MailboxView → Type 0
-Once m = (s : ℕ) → weight is_taken (one_at s) m.table ≤ 1
+Once m = (s : ℕ) → weight is_taken (one_at s) m.tickets.table ≤ 1
 
 -- and none before it is issued
 abbrev pub Later : MailboxView → Type 0
-Later m = (s : ℕ) → m.issued < s → weight is_taken (one_at s) m.table ≡ 0
+Later m = (s : ℕ) → m.tickets.issued < s → weight is_taken (one_at s) m.tickets.table ≡ 0
 
 -- the table has its 256 places
 abbrev pub Full : MailboxView → Type 0
-Full m = length m.table ≡ 256
+Full m = length m.tickets.table ≡ 256
 
 -- the mailbox is in order while the tickets `hand` are in hand
 pub record InOrder (hand : List ℕ) (m : MailboxView) : Type 0 where

@@ -8,4 +8,4 @@ abbrev pub queues_view : Queues → QueuesView
 queues_view q = record { normal = held q.normal; high = held q.high; urgent = held q.urgent }
 
 abbrev pub mailbox_view : Mailbox → MailboxView
-mailbox_view m = record { queues = queues_view m.queues; ending = held m.ending; issued = m.tickets.issued; table = m.tickets.table }
+mailbox_view m = record { queues = queues_view m.queues; ending = held m.ending; tickets = m.tickets }

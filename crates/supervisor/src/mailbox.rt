@@ -1,5 +1,5 @@
 // What a mailbox does: messages are sent and taken, tickets are given and raised.
-ghost use Rattle.std.specs.Prelude.{◌≡◌, ◌+◌, ◌<◌, true, length, None, Ok};
+ghost use Rattle.std.specs.Prelude.{◌≡◌, ◌<◌, true, length, None, OnErr};
 ghost use Rattle.std.specs.Option.{option_map};
 ghost use Rattle.supervisor.specs.Mailbox as Mail;
 ghost use Rattle.supervisor.specs.View.{queues_view, mailbox_view};
@@ -74,29 +74,18 @@ impl Mailbox {
         }
     }
 
-    // Whether a send may be made, or what it lacks.
-    pub(crate) fn may_send(&self, priority: Priority) -> Result<(), Refusal>
-        ensures { result ≡ Mail.may_send priority (mailbox_view self.now) }
+    // Gives a control the next ticket, held, and adds it to its queue; refuses where the queue has no room, or no ticket is left.
+    pub(crate) fn send(&mut self, priority: Priority, control: Control) -> Result<u32, Refusal>
+        ensures answer { (mailbox_view self.new, result) ≡ Mail.send priority control (mailbox_view self.old) }
+        ensures unchanged { OnErr result (self.new ≡ self.old) }
     {
         if !self.queues.has_room(priority) {
             return Err(Refusal::Queue);
         }
-        if !self.tickets.fits(1) {
-            return Err(Refusal::Tickets);
-        }
-        Ok(())
-    }
-
-    // Gives a control the next ticket, held or not, and adds it to its queue.
-    pub(crate) fn admit(&mut self, priority: Priority, control: Control, held: bool) -> u32
-        requires { Mail.may_send priority (mailbox_view self.old) ≡ Ok tt }
-        ensures ticket { result ≡ (mailbox_view self.old).issued + 1 }
-        ensures after { mailbox_view self.new ≡ Mail.admitted priority control held (mailbox_view self.old) }
-    {
-        let ticket = self.tickets.issue(held).unwrap();
+        let ticket = self.tickets.issue(true).ok_or(Refusal::Tickets)?;
         self.queues
             .send(priority, ControlMessage { control, ticket });
-        ticket
+        Ok(ticket)
     }
 
     // Frees the place of a ticket.

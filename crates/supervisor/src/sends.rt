@@ -22,12 +22,14 @@ impl Send {
             Send::ToWait => Priority::High,
         }
     }
+}
 
-    // The control that is sent.
-    pub(crate) fn control(self) -> Control
-        ensures { result ≡ Spec.control_of self }
-    {
-        match self {
+// The control that is sent.
+impl From<Send> for Control {
+    ghost from_gives = { λ send control. control ≡ Spec.control_of send };
+
+    fn from(send: Send) -> Control {
+        match send {
             Send::Start => Control::Start,
             Send::Stop => Control::Stop,
             Send::ToWait => Control::NextEnding,

@@ -13,26 +13,27 @@ use host::journal::Record;
 use host::process::Host;
 use host::state::{CommandState, ProcessEnd};
 use host::terminal::Terminal;
+use std::num::Wrapping;
 use std::test::Fail;
 
 // A host whose roster holds no child: each spawn faults with 11, each call that names a child with 10.
 #[derive(Drop)]
 struct NoRoom {
-    served: u64,
-    spawns: u64,
+    served: Wrapping<u64>,
+    spawns: Wrapping<u64>,
 }
 
 impl NoRoom {
     fn count(&mut self)
-        ensures { self.new ≡ record { served = next_count self.old.served; spawns = self.old.spawns } }
+        ensures { self.new ≡ record self.old { served = record { 0 = next_count self.old.served.0 } } }
     {
-        self.served = self.served.wrapping_add(1);
+        self.served += Wrapping(1);
     }
 
     // A counted call that names a child, none of which is on the roster.
     fn no_child<A>(&mut self) -> Result<A, Fault>
         ensures answer { result ≡ Err (fault 10) }
-        ensures counted { self.new ≡ record { served = next_count self.old.served; spawns = self.old.spawns } }
+        ensures counted { self.new ≡ record self.old { served = record { 0 = next_count self.old.served.0 } } }
     {
         self.count();
         Err(Fault::NO_CHILD)
@@ -42,19 +43,15 @@ impl NoRoom {
 impl Host for NoRoom {
     const MOST: usize = 0;
 
-    ghost most = { 0 };
+    ghost MOST = { 0 };
 
-    ghost book = { λ h. record { roster = []; served = h.served; spawns = h.spawns } };
+    ghost book = { λ h. record { roster = []; served = h.served.0; spawns = h.spawns.0 } };
 
-    ghost did = { λ h c a k. HostKeeps 0 (record { roster = []; served = h.served; spawns = h.spawns }) c a (record { roster = []; served = k.served; spawns = k.spawns }) };
+    ghost did = { λ h c a k. HostKeeps 0 (record { roster = []; served = h.served.0; spawns = h.spawns.0 }) c a (record { roster = []; served = k.served.0; spawns = k.spawns.0 }) };
 
     ghost keeps = { Prim.search rules };
 
     ghost bounded = { Prim.search rules };
-
-    fn capacity() -> usize {
-        0
-    }
 
     fn is_full(&self) -> bool {
         true
@@ -68,7 +65,7 @@ impl Host for NoRoom {
         _time: u64,
     ) -> Result<u32, Fault> {
         self.count();
-        self.spawns = self.spawns.wrapping_add(1);
+        self.spawns += Wrapping(1);
         Err(Fault::NO_ROOM)
     }
 
@@ -125,13 +122,13 @@ impl Host for NoRoom {
 // No terminal: one of its own, since only these tests would need the crate `foreground`.
 #[derive(Drop)]
 struct NoTerminal {
-    served: u64,
+    served: Wrapping<u64>,
 }
 
 impl Terminal for NoTerminal {
-    ghost book = { λ t. record { own = 1; grants = 0; served = t.served } };
+    ghost book = { λ t. record { own = 1; grants = 0; served = t.served.0 } };
 
-    ghost did = { λ t c a u. TerminalKeeps (record { own = 1; grants = 0; served = t.served }) c a (record { own = 1; grants = 0; served = u.served }) };
+    ghost did = { λ t c a u. TerminalKeeps (record { own = 1; grants = 0; served = t.served.0 }) c a (record { own = 1; grants = 0; served = u.served.0 }) };
 
     ghost keeps = { Prim.search rules };
 
@@ -141,28 +138,30 @@ impl Terminal for NoTerminal {
         1
     }
 
-    fn owner(&mut self) -> u32 {
-        self.served = self.served.wrapping_add(1);
-        0
+    fn owner(&mut self) -> Option<u32> {
+        self.served += Wrapping(1);
+        None
     }
 
     fn acquire(&mut self, _group: u32) -> Result<(), Fault> {
-        self.served = self.served.wrapping_add(1);
+        self.served += Wrapping(1);
         Err(Fault::NO_TERMINAL)
     }
 
     fn release(&mut self) {
-        self.served = self.served.wrapping_add(1);
+        self.served += Wrapping(1);
     }
 }
 
 // The records of a control step at a time, with a sheet of 8 places.
 fn step(job: &mut Job, time: u64) -> Result<usize, Refusal> {
     let mut host = NoRoom {
-        served: 0,
-        spawns: 0,
+        served: Wrapping(0),
+        spawns: Wrapping(0),
     };
-    let mut terminal = NoTerminal { served: 0 };
+    let mut terminal = NoTerminal {
+        served: Wrapping(0),
+    };
     let mut sheet = [Record::BLANK; 8];
     let done = job.control_step(&mut host, &mut terminal, &mut sheet, time)?;
     Ok(done.records)
@@ -207,10 +206,12 @@ fn a_full_table_gives_no_more_tickets(rt: HostRuntime) -> Result<(), Fail> {
 fn a_sheet_of_seven_is_too_short(rt: HostRuntime) -> Result<(), Fail> {
     let mut job = Job::new(1, 0)?;
     let mut host = NoRoom {
-        served: 0,
-        spawns: 0,
+        served: Wrapping(0),
+        spawns: Wrapping(0),
     };
-    let mut terminal = NoTerminal { served: 0 };
+    let mut terminal = NoTerminal {
+        served: Wrapping(0),
+    };
     let mut seven = [Record::BLANK; 7];
     let mut eight = [Record::BLANK; 8];
     assert_eq!(rt;

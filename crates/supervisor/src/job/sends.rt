@@ -68,17 +68,15 @@ impl Job {
         self.task.state
     }
 
-    // Any of the sends. The answer is a ticket, which is raised once the job has done what was sent. A closed job answers ticket 0, as the Rust does:
-    // it can be looked at and collected as any other, so it is no Option.
+    // Any of the sends. The answer is a ticket, which is raised once the job has done what was sent. A closed job answers ticket 0,
+    // as the Rust does: it can be looked at and collected as any other, so it is no Option.
     pub fn send(&mut self, send: Send) -> Result<u32, Refusal>
         ensures { Answers (Spec.send (priority_of send) (control_of send)) self.old result self.new }
     {
         if self.closed {
             return Ok(0);
         }
-        let priority = send.priority();
-        self.mailbox.may_send(priority)?;
-        Ok(self.mailbox.admit(priority, send.control(), true))
+        self.mailbox.send(send.priority(), send.into())
     }
 
     // The sends have the names of the Rust, so each is a method of its own.
@@ -106,7 +104,7 @@ impl Job {
 
     // Whether a held ticket is raised, or the job is closed.
     fn is_done(&self, ticket: u32) -> Result<bool, Refusal>
-        ensures { result ≡ Spec.looked (job_view self.now).closed (found ticket (job_view self.now).mailbox.table) }
+        ensures { result ≡ Spec.looked (job_view self.now).closed (found ticket (job_view self.now).mailbox.tickets.table) }
     {
         match self.mailbox.tickets.mark(ticket) {
             None | Some(Mark::Unheld) => Err(Refusal::Unknown),

@@ -33,8 +33,9 @@ impl Job {
         Ok(())
     }
 
-    // Host, terminal and sheet come one by one: a struct of them would be made by each caller, and each contract would have to say
-    // that the same ones are lent after the step.
+    // Host, terminal and sheet come one by one, since a caller may own them apart: a struct of loans would be made for each step, and
+    // each contract would have to say that the same ones are lent after it. The two steps are no cases of one function: what is done
+    // before and after the task's work differs, and the work is `conduct`.
 
     // Takes the next control and carries it out. The calls that are made are recorded on the sheet, from its first place on.
     pub fn control_step<H: Host, T: Terminal>(

@@ -1,5 +1,5 @@
 -- What a look calls done is raised, so that its place may be freed.
-use Rattle.std.proofs.Common.{length, ap, ◌∙◌, arith}
+use Rattle.std.proofs.Common.{arith}
 use Rattle.tickets.proofs.Tables.{change-length}
 use Rattle.supervisor.proofs.Mailboxes.{vacate_in}
 use Rattle.supervisor.proofs.job.Job.collect.Goals as goal
@@ -8,4 +8,4 @@ pub invariant_of-self-clause-in_order : goal.invariant_of-self-clause-in_order
 invariant_of-self-clause-in_order c e = rw c.vacate.ensures (vacate_in _ _ (c.args.self.now.in_order e) (grind arith))
 
 pub invariant_of-self-clause-full : goal.invariant_of-self-clause-full
-invariant_of-self-clause-full c = ap (λ m. length m.table) c.vacate.ensures ∙ change-length _ _ _ ∙ c.args.self.now.full
+invariant_of-self-clause-full c = grind (arith, change-length)

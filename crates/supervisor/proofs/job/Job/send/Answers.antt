@@ -1,10 +1,32 @@
 -- A send leaves the mailbox in order.
-use Rattle.std.proofs.Common.{true, sym}
-use Rattle.supervisor.proofs.Mailboxes.{admit_in}
+use Rattle.std.proofs.Common.{◌≡◌, ℕ, ◌≤◌, ◌^◌, false, [], Ok, Err, Result, ap, arith}
+use Rattle.std.specs.Result.{OnErr}
+use Rattle.std.proofs.Props.{props}
+use Rattle.task.specs.Task.{Granted}
+use Rattle.task.specs.View.{task_view}
+use Rattle.supervisor.specs.declared.errors.Refusal.{Refusal}
+use Rattle.supervisor.specs.declared.job.Job.{Job}
+use Rattle.supervisor.specs.declared.priority.Mailbox.{Mailbox}
+use Rattle.supervisor.specs.Sound.{InOrder, Full}
+use Rattle.supervisor.specs.View.{mailbox_view}
+use Rattle.supervisor.proofs.Mailboxes.{send_in}
 use Rattle.supervisor.proofs.job.Job.send.Goals as goal
 
+-- a job whose mailbox is the same where a send is refused is then the same
+kept : (r : Result ℕ Refusal) (j : Job) (m : Mailbox) → OnErr r (m ≡ j.mailbox) → (o : j.closed ≡ false → InOrder [] (mailbox_view m)) (f : Full (mailbox_view m)) (g : Granted (task_view j.task)) (t : j.clock ≤ 2 ^ 62) → OnErr r (record j { mailbox = m; in_order = o; full = f; granted = g; timely = t } ≡ j)
+kept (Ok x) j m e = λ _ _ _ _. tt
+kept (Err x) j m e = rw e (λ o f g t.
+    let p : o ≡ j.in_order = hlevel props in
+    let q : f ≡ j.full = hlevel props in
+    let r : g ≡ j.granted = hlevel props in
+    let s : t ≡ j.timely = hlevel props in
+    rw (p, q, r, s))
+
 pub invariant_of-self-clause-in_order : goal.invariant_of-self-clause-in_order
-invariant_of-self-clause-in_order c e = rw c.admit.ensures.after (admit_in _ _ true _ (c.args.self.now.in_order e) (sym c.in_ok-may_send.ensures))
+invariant_of-self-clause-in_order c e = rw (ap (λ x. x.0) c.send.ensures.answer) (send_in _ _ _ (c.args.self.now.in_order e))
 
 pub invariant_of-self-clause-full : goal.invariant_of-self-clause-full
 invariant_of-self-clause-full c = (invariant_of-self-clause-in_order c c.if-self.false).full
+
+pub returns : goal.returns
+returns c = record { answer = grind arith; unchanged = kept _ _ _ c.send.ensures.unchanged _ _ _ _ }
