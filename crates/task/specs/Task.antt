@@ -15,6 +15,7 @@ use Rattle.task.specs.declared.messages.Control.{Control}
 use Rattle.task.specs.declared.messages.Control.TheVariants.{Start, Stop, GracefulStop, TryRestart, TryGracefulRestart, ContinueTryGracefulRestart, Signal, Delete, NextEnding, Func, SetErrorHandler, UnsetErrorHandler, SetSpawnHook, UnsetSpawnHook, SetSpawnFn, ClearSpawnFn}
 use Rattle.task.specs.declared.messages.GraceEnd.{GraceEnd}
 use Rattle.task.specs.declared.messages.GraceEnd.TheVariants as GraceEnds
+use Rattle.task.specs.Messages.{sets_timer}
 use Rattle.task.specs.declared.task.Settings.{Settings}
 use Rattle.task.specs.declared.task.Outcome.{Outcome}
 use Rattle.task.specs.declared.task.Outcome.TheVariants.{Settled, Ended, Graced, Joined, Closes}
@@ -235,6 +236,15 @@ abbrev pub poll_child : Bool → ℕ → TaskView → Course PollOutcome
 poll_child restart time t = poll_in t.state restart time t
 
 -- WHAT HOLDS
+
+-- an outcome that leaves the ticket to the timer
+abbrev pub is_graced : Outcome → Bool
+is_graced (Graced grace end) = true
+is_graced o = false
+
+-- only a control that sets a timer ends with it
+abbrev pub Timed : Control → Outcome → Type 0
+Timed c o = is_graced o ≡ true → sets_timer c ≡ true
 
 -- a grant is held only while a child runs
 abbrev pub Granted : TaskView → Type 0

@@ -11,5 +11,5 @@ returns g c =
     let ended = Tree.in_state (Finished c.in-Some.end c.args.started s.time) (task_of s) in
     simp c.in-Some.is
     (from_change
-    (and_then (Tree.yield ended) _ (at_value Tree.yield c.finish.ensures c.yield_foreground.ensures)
+    (and_then (Tree.yield ended) _ (at_value Tree.yield {w = ended} c.finish.ensures c.yield_foreground.ensures)
     (at_value (λ (time : ℕ). Tree.follow c.args.restart time (task_of c.yield_foreground.new.self)) c.yield_foreground.ensures.same.time c.follow.ensures)))
