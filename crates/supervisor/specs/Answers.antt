@@ -1,5 +1,7 @@
 -- What a step did, and the numbers of it.
-use Rattle.std.specs.Prelude.{ℕ}
+use Rattle.std.specs.Prelude.{ℕ, if◌then◌else◌}
+use Rattle.task.specs.Task.{closes}
+use Rattle.task.specs.declared.task.Outcome.{Outcome}
 use Rattle.task.specs.declared.task.PollOutcome.{PollOutcome}
 use Rattle.task.specs.declared.task.PollOutcome.TheVariants as Polls
 use Rattle.supervisor.specs.declared.answers.Progress.{Progress}
@@ -9,6 +11,9 @@ abbrev pub progress_number : Progress → ℕ
 progress_number Idle = 0
 progress_number Handled = 1
 progress_number Closed = 2
+
+abbrev pub control_progress : Outcome → Progress
+control_progress o = if closes o then Closed else Handled
 
 -- a poll that found nothing to do is idle, any other is handled
 abbrev pub poll_progress : PollOutcome → Progress

@@ -1,5 +1,5 @@
 -- The job: what it holds, how it is made, its sends, looks and collects, and its steps.
-use Rattle.std.specs.Prelude.{ℕ, ◌^◌, Bool, true, false, if◌then◌else◌, not, ◌&&◌, [], Some, None, Ok, Err, Option, Result, ◌==◌, nat_le, nat_lt, ⊤}
+use Rattle.std.specs.Prelude.{ℕ, ◌^◌, Bool, true, false, if◌then◌else◌, not, ◌&&◌, [], is_some, Some, None, Ok, Err, Option, Result, ◌==◌, nat_le, nat_lt, ⊤}
 use Rattle.host.specs.declared.command.SpawnOptions.{SpawnOptions}
 use Rattle.host.specs.declared.command.Command.{Command}
 use Rattle.host.specs.declared.state.CommandState.TheVariants.{Pending}
@@ -13,17 +13,17 @@ use Rattle.supervisor.specs.declared.errors.Refusal.{Refusal}
 use Rattle.supervisor.specs.declared.errors.Refusal.TheVariants.{Closed, Sheet, Clock, Number, Unknown, Waiting}
 use Rattle.supervisor.specs.declared.answers.Progress.{Progress}
 use Rattle.supervisor.specs.declared.answers.StepKind as StepKind
-use Rattle.supervisor.specs.declared.answers.Progress.TheVariants.{Idle, Handled}
-use Rattle.task.specs.declared.messages.Control.{Control}
-use Rattle.task.specs.declared.messages.ControlMessage.{ControlMessage}
-use Rattle.supervisor.specs.declared.priority.Priority.{Priority}
+use Rattle.supervisor.specs.declared.answers.Progress.TheVariants.{Idle}
+use Rattle.supervisor.specs.declared.mailbox.Received.{Received}
+use Rattle.supervisor.specs.declared.sends.Send.{Send}
 use Rattle.task.specs.declared.task.Outcome.{Outcome}
 use Rattle.task.specs.declared.task.PollOutcome.{PollOutcome}
-use Rattle.task.specs.Messages.{orders}
-use Rattle.supervisor.specs.Answers.{poll_progress}
-use Rattle.task.specs.Task.{TaskView, control, poll_child}
+use Rattle.supervisor.specs.Answers.{control_progress, poll_progress}
+use Rattle.task.specs.Task.{TaskView, closes, control, poll_child}
 use Rattle.supervisor.specs.Mailbox as Mail
-use Rattle.supervisor.specs.Mailbox.{QueuesView, MailboxView, with_queues, Taken, take, settle, after_poll}
+use Rattle.supervisor.specs.Mailbox.{MailboxView, Taken, take, orders_start, settle, after_poll}
+use Rattle.supervisor.specs.Sends.{priority_of, controls_of}
+use Rattle.supervisor.specs.Timers.{memory}
 
 pub record JobView : Type 0 where
   pub closed : Bool
@@ -70,9 +70,9 @@ runs v = not v.closed && is_running v.task.state
 abbrev pub sent : MailboxView × Result ℕ Refusal → JobView → JobView × Result ℕ Refusal
 sent (m, r) v = (with_mailbox m v, r)
 
--- a closed job answers ticket 0; an open one refuses what lacks room, or gives the next ticket
-abbrev pub send : Priority → Control → JobView → JobView × Result ℕ Refusal
-send p c v = if v.closed then (v, Ok 0) else sent (Mail.send p c v.mailbox) v
+-- a closed job answers ticket 0; an open one refuses all controls of a send, or takes all and answers the last one's ticket
+abbrev pub send : Send → JobView → JobView × Result ℕ Refusal
+send s v = if v.closed then (v, Ok 0) else sent (Mail.send (priority_of s) (controls_of s) v.mailbox) v
 
 -- LOOK AND COLLECT
 
@@ -110,20 +110,21 @@ pub record Stepping : Type 0 where
   pub progress : Progress
   pub ordered : Bool
 
-abbrev pub carried : ℕ → JobView → ControlMessage → QueuesView → TaskView × Outcome → Stepping
-carried time v c q x = record {
-  view = record v { task = x.0; mailbox = settle x.1 c.ticket (with_queues q v.mailbox); clock = time };
-  progress = Handled;
-  ordered = orders c.control;
+-- a message was taken, which left the mailbox m, and its control carried out
+abbrev pub carried : ℕ → Received → MailboxView → TaskView × Outcome → Stepping
+carried time r m x = record {
+  view = record { closed = closes x.1; task = x.0; mailbox = settle time x.1 r.message.ticket m; clock = time };
+  progress = control_progress x.1;
+  ordered = orders_start r;
 }
 
 abbrev pub carry_out : Taken → ℕ → JobView → Interaction Stepping
 carry_out None time v = done (record { view = record v { clock = time }; progress = Idle; ordered = false })
-carry_out (Some (c, q)) time v = bind (control c.control time v.task) (λ x. done (carried time v c q x))
+carry_out (Some (r, m)) time v = bind (control r.message.control time v.task) (λ x. done (carried time r m x))
 
 -- a control step carries out the control that it takes
 abbrev pub control_step : ℕ → JobView → Interaction Stepping
-control_step time v = carry_out (take v.mailbox.queues) time v
+control_step time v = carry_out (take time v.mailbox) time v
 
 abbrev pub watched : ℕ → JobView → TaskView × PollOutcome → Stepping
 watched time v x = record {
@@ -132,9 +133,9 @@ watched time v x = record {
   ordered = false;
 }
 
--- a child step polls the child
+-- a child step polls the child, and continues the restart that is remembered, if one is
 abbrev pub child_step : ℕ → JobView → Interaction Stepping
-child_step time v = bind (poll_child time v.task) (λ x. done (watched time v x))
+child_step time v = bind (poll_child (is_some (memory v.mailbox.timer)) time v.task) (λ x. done (watched time v x))
 
 abbrev pub tree_of : StepKind.StepKind → ℕ → JobView → Interaction Stepping
 tree_of StepKind.TheVariants.Control = control_step

@@ -6,4 +6,5 @@ pub mod Mailbox
 pub mod Sends
 pub mod Sound
 pub mod Steps
+pub mod Timers
 pub mod View

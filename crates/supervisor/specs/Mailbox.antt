@@ -1,16 +1,25 @@
 -- The mailbox of a job: how messages are sent and taken, and what becomes of tickets.
-use Rattle.std.specs.Prelude.{ℕ, ◌+◌, Bool, true, if◌then◌else◌, not, List, [], ◌∷◌, ◌++◌, length, Some, None, Ok, Err, Option, Result, nat_lt, ⊤}
+use Rattle.std.specs.Prelude.{ℕ, ◌+◌, ◌-◌, Bool, true, false, if◌then◌else◌, not, ◌&&◌, List, [], ◌∷◌, ◌++◌, length, is_some, Some, None, Ok, Err, Option, Result, nat_le, ⊤}
+use Rattle.std.specs.Option.{option_map}
+use Rattle.std.specs.Result.{result_and}
 use Rattle.tickets.specs.Tickets.{TicketsView, Table, fresh, give, raise, raise_each, ticket_room, vacate}
 use Rattle.supervisor.specs.declared.errors.Refusal.{Refusal}
-use Rattle.supervisor.specs.declared.errors.Refusal.TheVariants.{Queue, Tickets}
+use Rattle.supervisor.specs.declared.errors.Refusal.TheVariants as Refusals
+use Rattle.task.specs.Messages.{orders}
 use Rattle.task.specs.declared.messages.Control.{Control}
 use Rattle.task.specs.declared.messages.ControlMessage.{ControlMessage}
-use Rattle.supervisor.specs.declared.priority.Priority.{Priority}
-use Rattle.supervisor.specs.declared.priority.Priority.TheVariants.{Normal, High, Urgent}
+use Rattle.supervisor.specs.declared.queues.Priority.{Priority}
+use Rattle.supervisor.specs.declared.queues.Priority.TheVariants.{Normal, High, Urgent}
+use Rattle.supervisor.specs.declared.timer.Timer.{Timer}
+use Rattle.supervisor.specs.declared.mailbox.Received.{Received}
+use Rattle.supervisor.specs.declared.mailbox.Source.{Source}
+use Rattle.supervisor.specs.declared.mailbox.Source.TheVariants as Sources
+use Rattle.supervisor.specs.Sends.{all_fit}
+use Rattle.supervisor.specs.Timers.{due, memory}
 use Rattle.task.specs.declared.task.Outcome.{Outcome}
-use Rattle.task.specs.declared.task.Outcome.TheVariants.{Settled, Ended, Joined}
+use Rattle.task.specs.declared.task.Outcome.TheVariants.{Settled, Ended, Graced, Joined, Closes}
 use Rattle.task.specs.declared.task.PollOutcome.{PollOutcome}
-use Rattle.task.specs.declared.task.PollOutcome.TheVariants.{Over}
+use Rattle.task.specs.declared.task.PollOutcome.TheVariants.{Over, Renewed}
 
 -- the messages that wait, oldest first
 pub record QueuesView : Type 0 where
@@ -20,12 +29,17 @@ pub record QueuesView : Type 0 where
 
 pub record MailboxView : Type 0 where
   pub queues : QueuesView
+  -- the timer that is pending
+  pub timer : Option Timer
   -- the tickets that wait for the child's end
   pub ending : List ℕ
   pub tickets : TicketsView
 
 abbrev pub with_queues : QueuesView → MailboxView → MailboxView
 with_queues q m = record m { queues = q }
+
+abbrev pub with_timer : Option Timer → MailboxView → MailboxView
+with_timer t m = record m { timer = t }
 
 abbrev pub with_table : Table → MailboxView → MailboxView
 with_table t m = record m { tickets = record m.tickets { table = t } }
@@ -47,57 +61,94 @@ enqueued Normal c q = record q { normal = q.normal ++ c ∷ [] }
 enqueued High c q = record q { high = q.high ++ c ∷ [] }
 enqueued Urgent c q = record q { urgent = q.urgent ++ c ∷ [] }
 
--- a queue has room for one message more
-abbrev pub queue_room : Priority → QueuesView → Bool
-queue_room p q = nat_lt (length (queue_of p q)) (capacity p)
+-- a queue has room for n messages more
+abbrev pub queue_room : Priority → ℕ → QueuesView → Bool
+queue_room p n q = nat_le n (capacity p - length (queue_of p q))
 
--- one ticket more can be given
-abbrev pub serial_room : MailboxView → Bool
-serial_room m = ticket_room 1 m.tickets.issued m.tickets.table
+-- n tickets more can be given
+abbrev pub serial_room : ℕ → MailboxView → Bool
+serial_room n m = ticket_room n m.tickets.issued m.tickets.table
 
 abbrev pub message : Control → ℕ → ControlMessage
 message control ticket = record { control = control; ticket = ticket }
 
--- the control gets the next ticket, held, and waits in its queue
-abbrev pub admitted : Priority → Control → MailboxView → MailboxView
-admitted p c m = record m {
+-- the control gets the next ticket, held or not, and waits in its queue
+abbrev pub admitted : Priority → Control → Bool → MailboxView → MailboxView
+admitted p c held m = record m {
   queues = enqueued p (message c (m.tickets.issued + 1)) m.queues;
-  tickets = give (m.tickets.issued + 1) true m.tickets;
+  tickets = give (m.tickets.issued + 1) held m.tickets;
 }
 
--- a send may be made, or lacks something
-abbrev pub may_send : Priority → MailboxView → Result ⊤ Refusal
-may_send p m = if not (queue_room p m.queues) then Err Queue else if serial_room m then Ok tt else Err Tickets
+-- each control gets a ticket, and the last one's is held
+abbrev pub admitted_all : Priority → List Control → MailboxView → MailboxView
+admitted_all p [] m = m
+admitted_all p (c ∷ []) m = admitted p c true m
+admitted_all p (c ∷ d ∷ cs) m = admitted_all p (d ∷ cs) (admitted p c false m)
 
-abbrev pub sent : Result ⊤ Refusal → Priority → Control → MailboxView → MailboxView × Result ℕ Refusal
-sent (Err r) p c m = (m, Err r)
-sent (Ok u) p c m = (admitted p c m, Ok (m.tickets.issued + 1))
+-- a queue and the ticket table have room for n controls more, or what lacks it
+abbrev pub has_room : Priority → ℕ → MailboxView → Result ⊤ Refusal
+has_room p n m = if not (queue_room p n m.queues) then Err Refusals.Queue else if serial_room n m then Ok tt else Err Refusals.Tickets
 
--- a send is refused for what it lacks and changes nothing, or its control is admitted and its ticket answered
-abbrev pub send : Priority → Control → MailboxView → MailboxView × Result ℕ Refusal
-send p c m = sent (may_send p m) p c m
+-- a send may be made, or is refused: for what its controls carry, or for want of room
+abbrev pub may_send : Priority → List Control → MailboxView → Result ⊤ Refusal
+may_send p cs m = result_and (all_fit cs) (has_room p (length cs) m)
+
+abbrev pub sent : Result ⊤ Refusal → Priority → List Control → MailboxView → MailboxView × Result ℕ Refusal
+sent (Err r) p cs m = (m, Err r)
+sent (Ok u) p cs m = (admitted_all p cs m, Ok (m.tickets.issued + length cs))
+
+-- a send is refused and changes nothing, or all its controls are admitted and the last one's ticket answered
+abbrev pub send : Priority → List Control → MailboxView → MailboxView × Result ℕ Refusal
+send p cs m = sent (may_send p cs m) p cs m
 
 -- TAKING
 
--- what a control step takes: nothing, or a message, with the queues that it leaves
+-- what is taken from the queues: nothing, or a message, with the queues that it leaves
+abbrev pub Next : Type 0
+Next = Option (ControlMessage × QueuesView)
+
+abbrev pub take_normal : Bool → List ControlMessage → QueuesView → Next
+take_normal true cs q = None
+take_normal false [] q = None
+take_normal false (c ∷ cs) q = Some (c, record q { normal = cs })
+
+abbrev pub take_high : Bool → List ControlMessage → QueuesView → Next
+take_high graced [] q = take_normal graced q.normal q
+take_high graced (c ∷ cs) q = Some (c, record q { high = cs })
+
+abbrev pub take_urgent : Bool → List ControlMessage → QueuesView → Next
+take_urgent graced [] q = take_high graced q.high q
+take_urgent graced (c ∷ cs) q = Some (c, record q { urgent = cs })
+
+-- the oldest urgent message, else the oldest high one, else, unless a grace runs, the oldest normal one
+abbrev pub next : Bool → QueuesView → Next
+next graced q = take_urgent graced q.urgent q
+
+-- what a control step takes: nothing, or a message with its source, and the mailbox that it leaves
 abbrev pub Taken : Type 0
-Taken = Option (ControlMessage × QueuesView)
+Taken = Option (Received × MailboxView)
 
-abbrev pub take_normal : List ControlMessage → QueuesView → Taken
-take_normal [] q = None
-take_normal (c ∷ cs) q = Some (c, record q { normal = cs })
+abbrev pub received : ControlMessage → Source → Received
+received c source = record { message = c; source = source }
 
-abbrev pub take_high : List ControlMessage → QueuesView → Taken
-take_high [] q = take_normal q.normal q
-take_high (c ∷ cs) q = Some (c, record q { high = cs })
+abbrev pub from_queues : MailboxView → Taken
+from_queues m = option_map (λ x. (received x.0 Sources.Queue, with_queues x.1 m)) (next (is_some m.timer) m.queues)
 
-abbrev pub take_urgent : List ControlMessage → QueuesView → Taken
-take_urgent [] q = take_high q.high q
-take_urgent (c ∷ cs) q = Some (c, record q { urgent = cs })
+abbrev pub take_due : Option ControlMessage → MailboxView → Taken
+take_due None m = from_queues m
+take_due (Some c) m = Some (received c Sources.Timer, with_timer None m)
 
--- the oldest urgent message, else the oldest high one, else the oldest normal one
-abbrev pub take : QueuesView → Taken
-take q = take_urgent q.urgent q
+-- the timer's message if its deadline has come, with which the timer is gone; else the next of the queues
+abbrev pub take : ℕ → MailboxView → Taken
+take time m = take_due (due time m.timer) m
+
+abbrev pub is_queue : Source → Bool
+is_queue Sources.Queue = true
+is_queue Sources.Timer = false
+
+-- a control that orders a start was taken from a queue
+abbrev pub orders_start : Received → Bool
+orders_start r = is_queue r.source && orders r.message.control
 
 -- RAISING
 
@@ -108,15 +159,32 @@ raised ticket m = with_table (raise ticket m.tickets.table) m
 abbrev pub endings_raised : MailboxView → MailboxView
 endings_raised m = record m { ending = []; tickets = record m.tickets { table = raise_each m.ending m.tickets.table } }
 
--- what an outcome makes of the ticket of a control
-abbrev pub settle : Outcome → ℕ → MailboxView → MailboxView
-settle Settled ticket m = raised ticket m
-settle Ended ticket m = raised ticket (endings_raised m)
-settle Joined ticket m = record m { ending = m.ending ++ ticket ∷ [] }
+-- what an outcome at this time makes of the ticket of a control
+abbrev pub settle : ℕ → Outcome → ℕ → MailboxView → MailboxView
+settle time Settled ticket m = raised ticket m
+settle time Ended ticket m = raised ticket (endings_raised m)
+settle time (Graced grace end) ticket m = with_timer (Some (record { deadline = time + grace; ticket = ticket; end = end })) m
+settle time Joined ticket m = record m { ending = m.ending ++ ticket ∷ [] }
+settle time Closes ticket m = raised ticket m
+
+-- the timer is gone, and its ticket is raised
+abbrev pub timer_raised : Option Timer → MailboxView → MailboxView
+timer_raised None m = m
+timer_raised (Some t) m = raised t.ticket (with_timer None m)
+
+-- the child has ended: the timer's ticket is raised, and then the ending list
+abbrev pub ended : MailboxView → MailboxView
+ended m = endings_raised (timer_raised m.timer m)
+
+-- the ticket that was remembered is raised again
+abbrev pub again : Option ℕ → MailboxView → MailboxView
+again None m = m
+again (Some ticket) m = raised ticket m
 
 -- what a poll makes of the tickets that wait for the child's end
 abbrev pub after_poll : PollOutcome → MailboxView → MailboxView
-after_poll Over m = endings_raised m
+after_poll Over m = ended m
+after_poll Renewed m = again (memory m.timer) (ended m)
 after_poll outcome m = m
 
 -- the place of a ticket is freed
@@ -125,4 +193,4 @@ vacated ticket m = with_table (vacate ticket m.tickets.table) m
 
 -- an empty mailbox
 abbrev pub empty : MailboxView
-empty = record { queues = record { normal = []; high = []; urgent = [] }; ending = []; tickets = fresh }
+empty = record { queues = record { normal = []; high = []; urgent = [] }; timer = None; ending = []; tickets = fresh }

@@ -1,8 +1,8 @@
 // The two kinds of step, and what a step answers.
 ghost use Rattle.std.specs.Prelude.{◌≡◌};
-ghost use Rattle.supervisor.specs.Answers.{poll_progress, progress_number};
+ghost use Rattle.supervisor.specs.Answers.{control_progress, poll_progress, progress_number};
 
-use task::task::PollOutcome;
+use task::task::{Outcome, PollOutcome};
 
 // A control step carries out one control, a child step polls the child. Which one is made is data, and no closure: lists of calls
 // and scripts name it.
@@ -29,6 +29,19 @@ impl From<Progress> for u8 {
     }
 }
 
+// What carrying a control out comes to.
+impl From<Outcome> for Progress {
+    ghost from_gives = { λ outcome progress. progress ≡ control_progress outcome };
+
+    fn from(outcome: Outcome) -> Progress {
+        if outcome.closes() {
+            Progress::Closed
+        } else {
+            Progress::Handled
+        }
+    }
+}
+
 // What a poll of the child comes to.
 impl From<PollOutcome> for Progress {
     ghost from_gives = { λ outcome progress. progress ≡ poll_progress outcome };
@@ -36,7 +49,7 @@ impl From<PollOutcome> for Progress {
     fn from(outcome: PollOutcome) -> Progress {
         match outcome {
             PollOutcome::Idle => Progress::Idle,
-            PollOutcome::Faulted | PollOutcome::Over => Progress::Handled,
+            PollOutcome::Faulted | PollOutcome::Over | PollOutcome::Renewed => Progress::Handled,
         }
     }
 }

@@ -5,7 +5,7 @@ ghost use Rattle.supervisor.specs.Sound.{Full, InOrder};
 ghost use Rattle.task.specs.View.{task_view};
 ghost use Rattle.supervisor.specs.View.{mailbox_view};
 
-use crate::priority::Mailbox;
+use crate::mailbox::Mailbox;
 use task::task::Task;
 
 // One command with its task and its mailbox. A closed job does nothing any more.
@@ -22,13 +22,7 @@ pub struct Job {
     ghost timely: { clock ≤ 2 ^ 62 },
 }
 
+mod looking;
+mod making;
 mod sends;
 mod steps;
-
-#[cfg(test)]
-impl Job {
-    // As a control that sets the error handler leaves it.
-    pub(crate) fn set_handler(&mut self, handler: u8) {
-        self.task.settings.handler = Some(handler);
-    }
-}

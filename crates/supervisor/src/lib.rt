@@ -4,8 +4,9 @@
 pub mod answers;
 pub mod errors;
 pub mod job;
-mod mailbox;
-pub mod priority;
+pub mod mailbox;
+pub mod queues;
 pub mod sends;
 #[cfg(test)]
 mod tests;
+pub mod timer;

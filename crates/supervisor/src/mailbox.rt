@@ -1,91 +1,142 @@
-// What a mailbox does: messages are sent and taken, tickets are given and raised.
-ghost use Rattle.std.specs.Prelude.{◌≡◌, ◌<◌, true, length, None, OnErr};
+// The mailbox of a job: its queues, its timer, the tickets that wait for the child's end, and the ticket table.
+ghost use Rattle.std.specs.Prelude.{◌≡◌, ◌+◌, ◌^◌, ◌<◌, ◌≤◌, true, length, None, OnErr};
 ghost use Rattle.std.specs.Option.{option_map};
+ghost use Rattle.tickets.specs.Tickets.{ticket_room};
 ghost use Rattle.supervisor.specs.Mailbox as Mail;
-ghost use Rattle.supervisor.specs.View.{queues_view, mailbox_view};
+ghost use Rattle.supervisor.specs.Sends.{listed};
+ghost use Rattle.supervisor.specs.Timers as Timers;
+ghost use Rattle.supervisor.specs.View.{mailbox_view};
 
 use crate::errors::Refusal;
-use crate::priority::{Mailbox, Priority, Queues};
+use crate::queues::{Priority, Queues};
+use crate::sends::Controls;
+use crate::timer::Timer;
 use ring::queue::Queue;
-use task::messages::{Control, ControlMessage};
+use task::messages::{Control, ControlMessage, GraceEnd};
 use task::task::{Outcome, PollOutcome};
 use tickets::flag::Tickets;
 
-// The queues differ in type, by their sizes, so each is an arm of its own.
-impl Queues {
-    // Whether a queue can take one message more.
-    fn has_room(&self, priority: Priority) -> bool
-        ensures { result ≡ Mail.queue_room priority (queues_view self.now) }
-    {
-        match priority {
-            Priority::Normal => self.normal.room() > 0,
-            Priority::High => self.high.room() > 0,
-            Priority::Urgent => self.urgent.room() > 0,
-        }
-    }
-
-    // Adds a message to a queue that has room.
-    fn send(&mut self, priority: Priority, message: ControlMessage)
-        requires { Mail.queue_room priority (queues_view self.old) ≡ true }
-        ensures { queues_view self.new ≡ Mail.enqueued priority message (queues_view self.old) }
-    {
-        let _ = match priority {
-            Priority::Normal => self.normal.push(message),
-            Priority::High => self.high.push(message),
-            Priority::Urgent => self.urgent.push(message),
-        };
-    }
-
-    // Takes the oldest urgent message, else the oldest high one, else the oldest normal one.
-    pub(crate) fn receive(&mut self) -> Option<ControlMessage>
-        ensures taken { Mail.take (queues_view self.old) ≡ option_map (λ message. (message, queues_view self.new)) result }
-        ensures idle { result ≡ None → queues_view self.new ≡ queues_view self.old }
-    {
-        // Not `pop().or_else(|| ..)`: what a closure has popped, a proof doesn't know.
-        if let Some(message) = self.urgent.pop() {
-            return Some(message);
-        }
-        if let Some(message) = self.high.pop() {
-            return Some(message);
-        }
-        self.normal.pop()
-    }
+#[derive(Clone, Copy)]
+pub struct Mailbox {
+    pub queues: Queues,
+    pub timer: Option<Timer>,
+    // The ending list: the tickets that are raised when the child ends.
+    pub ending: Queue<u32, 256>,
+    pub tickets: Tickets,
 }
 
-const BLANK: ControlMessage = ControlMessage {
-    control: Control::Start,
-    ticket: 0,
-};
+// What brought a message.
+#[derive(Clone, Copy)]
+pub enum Source {
+    Queue,
+    Timer,
+}
+
+// A message that a control step takes.
+#[derive(Clone, Copy)]
+pub struct Received {
+    pub message: ControlMessage,
+    pub source: Source,
+}
+
+impl Received {
+    // Whether a control that orders a start was taken from a queue; the timer carries out an order that was taken before.
+    pub(crate) fn orders_start(self) -> bool
+        ensures { result ≡ Mail.orders_start self }
+    {
+        match self.source {
+            Source::Queue => self.message.control.orders_start(),
+            Source::Timer => false,
+        }
+    }
+}
 
 impl Mailbox {
     // A mailbox with no messages and no tickets.
     pub(crate) fn new() -> Self
         ensures { mailbox_view result ≡ Mail.empty }
     {
-        let queues = Queues {
-            normal: Queue::new(BLANK),
-            high: Queue::new(BLANK),
-            urgent: Queue::new(BLANK),
-        };
         Mailbox {
-            queues,
+            queues: Queues::new(),
+            timer: None,
             ending: Queue::new(0),
             tickets: Tickets::new(),
         }
     }
 
-    // Gives a control the next ticket, held, and adds it to its queue; refuses where the queue has no room, or no ticket is left.
-    pub(crate) fn send(&mut self, priority: Priority, control: Control) -> Result<u32, Refusal>
-        ensures answer { (mailbox_view self.new, result) ≡ Mail.send priority control (mailbox_view self.old) }
-        ensures unchanged { OnErr result (self.new ≡ self.old) }
+    // Gives a control the next ticket, held or not, and adds it to its queue.
+    fn admit(&mut self, priority: Priority, control: Control, held: bool) -> u32
+        requires { (Mail.queue_room priority 1 (mailbox_view self.old).queues ≡ true) × (ticket_room 1 (mailbox_view self.old).tickets.issued (mailbox_view self.old).tickets.table ≡ true) }
+        ensures ticket { result ≡ (mailbox_view self.old).tickets.issued + 1 }
+        ensures after { mailbox_view self.new ≡ Mail.admitted priority control held (mailbox_view self.old) }
     {
-        if !self.queues.has_room(priority) {
-            return Err(Refusal::Queue);
-        }
-        let ticket = self.tickets.issue(true).ok_or(Refusal::Tickets)?;
+        let ticket = self.tickets.issue(held).unwrap();
         self.queues
             .send(priority, ControlMessage { control, ticket });
-        Ok(ticket)
+        ticket
+    }
+
+    // Gives each control a ticket, the last one a held one, which is answered, and adds them to their queue; or refuses all, for
+    // what they carry, or where the queue or the ticket table lacks room.
+    pub(crate) fn send(&mut self, priority: Priority, controls: Controls) -> Result<u32, Refusal>
+        ensures answer { (mailbox_view self.new, result) ≡ Mail.send priority (listed controls) (mailbox_view self.old) }
+        ensures unchanged { OnErr result (self.new ≡ self.old) }
+    {
+        controls.fit()?;
+        let n = controls.count();
+        if !self.queues.has_room(priority, n) {
+            return Err(Refusal::Queue);
+        }
+        if !self.tickets.fits(n) {
+            return Err(Refusal::Tickets);
+        }
+        let Some(control) = controls.before else {
+            return Ok(self.admit(priority, controls.last, true));
+        };
+        let _ = self.admit(priority, control, false);
+        Ok(self.admit(priority, controls.last, true))
+    }
+
+    // The message of the timer, if its deadline has come.
+    fn due(&self, time: u64) -> Option<ControlMessage>
+        ensures { result ≡ Timers.due time (mailbox_view self.now).timer }
+    {
+        self.timer
+            .filter(|timer| timer.deadline <= time)
+            .map(ControlMessage::from)
+    }
+
+    // Takes the timer's message if its deadline has come, and the timer is gone with it; else the next of the queues.
+    pub(crate) fn receive(&mut self, time: u64) -> Option<Received>
+        ensures taken { Mail.take time (mailbox_view self.old) ≡ option_map (λ r. (r, mailbox_view self.new)) result }
+        ensures idle { result ≡ None → mailbox_view self.new ≡ mailbox_view self.old }
+    {
+        if let Some(message) = self.due(time) {
+            self.timer = None;
+            return Some(Received {
+                message,
+                source: Source::Timer,
+            });
+        }
+        let message = self.queues.receive(self.timer.is_some())?;
+        Some(Received {
+            message,
+            source: Source::Queue,
+        })
+    }
+
+    // The restart memory: the ticket of the restart that the child's end continues.
+    pub(crate) fn memory(&self) -> Option<u32>
+        ensures { result ≡ Timers.memory (mailbox_view self.now).timer }
+    {
+        match self.timer? {
+            Timer {
+                ticket,
+                end: GraceEnd::Restart,
+                ..
+            } => Some(ticket),
+            _ => None,
+        }
     }
 
     // Frees the place of a ticket.
@@ -105,16 +156,24 @@ impl Mailbox {
         self.ending.clear();
     }
 
-    // Sees to the ticket of a control that was carried out.
-    pub(crate) fn settle(&mut self, outcome: Outcome, ticket: u32)
-        requires { length (mailbox_view self.old).ending < 256 }
-        ensures { mailbox_view self.new ≡ Mail.settle outcome ticket (mailbox_view self.old) }
+    // Sees to the ticket of a control that was carried out at this time.
+    pub(crate) fn settle(&mut self, time: u64, outcome: Outcome, ticket: u32)
+        requires time { time ≤ 2 ^ 62 }
+        requires room { length (mailbox_view self.old).ending < 256 }
+        ensures { mailbox_view self.new ≡ Mail.settle time outcome ticket (mailbox_view self.old) }
     {
         match outcome {
-            Outcome::Settled => self.tickets.raise(ticket),
+            Outcome::Settled | Outcome::Closes => self.tickets.raise(ticket),
             Outcome::Ended => {
                 self.raise_ending();
                 self.tickets.raise(ticket);
+            }
+            Outcome::Graced { grace, end } => {
+                self.timer = Some(Timer {
+                    deadline: time + u64::from(grace),
+                    ticket,
+                    end,
+                });
             }
             Outcome::Joined => {
                 let _ = self.ending.push(ticket);
@@ -122,13 +181,31 @@ impl Mailbox {
         }
     }
 
+    // The child has ended: raises the timer's ticket, drops the timer, and raises the ending list.
+    fn raise_ended(&mut self)
+        ensures { mailbox_view self.new ≡ Mail.ended (mailbox_view self.old) }
+    {
+        if let Some(timer) = self.timer {
+            self.timer = None;
+            self.tickets.raise(timer.ticket);
+        }
+        self.raise_ending();
+    }
+
     // Sees to the tickets that wait for the child's end, once it was polled.
     pub(crate) fn after_poll(&mut self, outcome: PollOutcome)
         ensures { mailbox_view self.new ≡ Mail.after_poll outcome (mailbox_view self.old) }
     {
+        let memory = self.memory();
         match outcome {
             PollOutcome::Idle | PollOutcome::Faulted => {}
-            PollOutcome::Over => self.raise_ending(),
+            PollOutcome::Over => self.raise_ended(),
+            PollOutcome::Renewed => {
+                self.raise_ended();
+                if let Some(ticket) = memory {
+                    self.tickets.raise(ticket);
+                }
+            }
         }
     }
 }

@@ -237,6 +237,11 @@ poll_child restart time t = poll_in t.state restart time t
 
 -- WHAT HOLDS
 
+-- an outcome that closes the job
+abbrev pub closes : Outcome → Bool
+closes Closes = true
+closes o = false
+
 -- an outcome that leaves the ticket to the timer
 abbrev pub is_graced : Outcome → Bool
 is_graced (Graced grace end) = true

@@ -1,4 +1,7 @@
 // The task of a job: what it holds, and what becomes of a control and of a poll.
+ghost use Rattle.std.specs.Prelude.{◌≡◌};
+ghost use Rattle.task.specs.Task.{closes};
+
 use crate::messages::GraceEnd;
 use host::command::Command;
 use host::state::CommandState;
@@ -45,6 +48,15 @@ pub enum Outcome {
     Joined,
     // It is raised, and the job is closed.
     Closes,
+}
+
+impl Outcome {
+    // Whether the job is closed with it.
+    pub fn closes(self) -> bool
+        ensures { result ≡ closes self }
+    {
+        matches!(self, Outcome::Closes)
+    }
 }
 
 // What a poll of the child found.

@@ -49,13 +49,14 @@ impl Job {
     {
         self.may_step(time, sheet.len())?; // A refused step keeps the clock.
         self.clock = time;
-        let Some(message) = self.mailbox.queues.receive() else {
+        let Some(received) = self.mailbox.receive(time) else {
             return Ok(Stepped {
                 progress: Progress::Idle,
                 records: 0,
                 ordered: false,
             });
         };
+        let message = received.message;
         let Some((outcome, records)) = conduct::control(
             &mut self.task,
             host,
@@ -67,15 +68,16 @@ impl Job {
             // `may_step` has seen to the sheet, and `control` checks it again, since it takes every sheet.
             unreachable()
         };
-        self.mailbox.settle(outcome, message.ticket);
+        self.mailbox.settle(time, outcome, message.ticket);
+        self.closed = outcome.closes();
         Ok(Stepped {
-            progress: Progress::Handled,
+            progress: outcome.into(),
             records,
-            ordered: message.control.orders_start(),
+            ordered: received.orders_start(),
         })
     }
 
-    // Polls the child, if one runs, and sees to its end.
+    // Polls the child, if one runs, and sees to its end: tickets are raised, and a restart that is remembered is continued.
     pub fn child_step<H: Host, T: Terminal>(
         &mut self,
         host: &mut H,
@@ -87,8 +89,15 @@ impl Job {
     {
         self.may_step(time, sheet.len())?;
         self.clock = time;
-        let Some((outcome, records)) = conduct::poll(&mut self.task, host, terminal, sheet, time)
-        else {
+        let restart = self.mailbox.memory().is_some();
+        let Some((outcome, records)) = conduct::poll(
+            &mut self.task,
+            host,
+            terminal,
+            sheet,
+            restart,
+            time,
+        ) else {
             // As in a control step.
             unreachable()
         };

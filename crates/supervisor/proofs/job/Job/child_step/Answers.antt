@@ -1,11 +1,17 @@
 -- A child step keeps what holds of every job, and is accepted.
-use Rattle.std.proofs.Common.{sym, arith}
+use Rattle.std.proofs.Common.{Bool, is_some, sym, ap, ◌∙◌, arith}
 use Rattle.std.proofs.lemmas.Bool.Decides.{nat_tests}
 use Rattle.supervisor.specs.declared.answers.StepKind.TheVariants.{Child}
 use Rattle.supervisor.specs.Job.{watched}
 use Rattle.supervisor.specs.Steps.{job_view}
-use Rattle.task.specs.Task.{poll_child}
-use Rattle.task.proofs.Sheets.{then_done}
+use Rattle.supervisor.specs.Timers.{memory}
+use Rattle.std.specs.Prelude.{⊤}
+use Rattle.host.specs.Interaction.{Answered}
+use Rattle.task.specs.Task.{Granted, poll_child}
+use Rattle.task.specs.View.{task_view}
+use Rattle.task.proofs.Always.{always_ends}
+use Rattle.task.proofs.Grants.{poll_granted}
+use Rattle.task.proofs.Sheets.{at_value, then_done}
 use Rattle.supervisor.proofs.Mailboxes.{after_poll_in}
 use Rattle.supervisor.proofs.Steps.{accepted}
 use Rattle.supervisor.proofs.job.Job.child_step.Goals as goal
@@ -16,8 +22,16 @@ invariant_of-self-clause-in_order g c e = rw c.after_poll.ensures (after_poll_in
 pub invariant_of-self-clause-full : goal.invariant_of-self-clause-full
 invariant_of-self-clause-full g c = (invariant_of-self-clause-in_order g c (grind (arith, nat_tests))).full
 
+pub invariant_of-self-clause-granted : goal.invariant_of-self-clause-granted
+invariant_of-self-clause-granted g c =
+    let t = task_view c.args.self.now.task in
+    let restart = c.is_some-restart.result in
+    let run = c.in-Some.ensures.1 in
+    (always_ends (Answered g.H.Host g.T.Terminal) (λ x. Granted x.0 × ⊤) (poll_child restart c.args.time t) _ _ run.trace _ (poll_granted restart c.args.time t c.args.self.now.granted) run.traces).0
+
 pub returns : goal.returns
 returns g c =
     let v = job_view c.args.self.now in
+    let restart = is_some (memory v.mailbox.timer) in
     accepted g.met.H.Host.keeps g.met.T.Terminal.keeps Child c.args.time (sym c.in_ok-may_step.ensures)
-    (then_done (poll_child c.args.time v.task) (watched c.args.time v) (cc) c.in-Some.ensures.1)
+    (then_done (poll_child restart c.args.time v.task) (watched c.args.time v) (cc) (at_value (λ (b : Bool). poll_child b c.args.time v.task) (c.is_some-restart.ensures ∙ ap is_some c.memory.ensures) c.in-Some.ensures.1))

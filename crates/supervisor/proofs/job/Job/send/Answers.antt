@@ -6,7 +6,7 @@ use Rattle.task.specs.Task.{Granted}
 use Rattle.task.specs.View.{task_view}
 use Rattle.supervisor.specs.declared.errors.Refusal.{Refusal}
 use Rattle.supervisor.specs.declared.job.Job.{Job}
-use Rattle.supervisor.specs.declared.priority.Mailbox.{Mailbox}
+use Rattle.supervisor.specs.declared.mailbox.Mailbox.{Mailbox}
 use Rattle.supervisor.specs.Sound.{InOrder, Full}
 use Rattle.supervisor.specs.View.{mailbox_view}
 use Rattle.supervisor.proofs.Mailboxes.{send_in}
@@ -23,7 +23,7 @@ kept (Err x) j m e = rw e (λ o f g t.
     rw (p, q, r, s))
 
 pub invariant_of-self-clause-in_order : goal.invariant_of-self-clause-in_order
-invariant_of-self-clause-in_order c e = rw (ap (λ x. x.0) c.send.ensures.answer) (send_in _ _ _ (c.args.self.now.in_order e))
+invariant_of-self-clause-in_order c e = rw (ap (λ x. x.0) c.send.ensures.answer) (rw (c.priority.ensures, c.into.ensures) (send_in c.args.send _ (c.args.self.now.in_order e)))
 
 pub invariant_of-self-clause-full : goal.invariant_of-self-clause-full
 invariant_of-self-clause-full c = (invariant_of-self-clause-in_order c c.if-self.false).full

@@ -1,0 +1,25 @@
+-- The timer of a job: its message, and the restart memory.
+use Rattle.std.specs.Prelude.{ℕ, if◌then◌else◌, Some, None, Option, nat_le}
+use Rattle.task.specs.Messages.{at_end}
+use Rattle.task.specs.declared.messages.ControlMessage.{ControlMessage}
+use Rattle.task.specs.declared.messages.GraceEnd.{GraceEnd}
+use Rattle.task.specs.declared.messages.GraceEnd.TheVariants.{Stop, Restart}
+use Rattle.supervisor.specs.declared.timer.Timer.{Timer}
+
+-- the message of a timer: a restart is continued, or the child stopped
+abbrev pub timer_message : Timer → ControlMessage
+timer_message t = record { control = at_end t.end; ticket = t.ticket }
+
+-- the timer's message, if there is a timer and its deadline has come
+abbrev pub due : ℕ → Option Timer → Option ControlMessage
+due time None = None
+due time (Some t) = if nat_le t.deadline time then Some (timer_message t) else None
+
+-- the restart memory: the ticket of the restart that the child's end continues
+abbrev pub remembered : GraceEnd → ℕ → Option ℕ
+remembered Restart ticket = Some ticket
+remembered Stop ticket = None
+
+abbrev pub memory : Option Timer → Option ℕ
+memory None = None
+memory (Some t) = remembered t.end t.ticket

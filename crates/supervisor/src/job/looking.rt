@@ -1,0 +1,46 @@
+// Looking at tickets, and collecting them.
+ghost use Rattle.std.specs.Prelude.{◌≡◌};
+ghost use Rattle.tickets.specs.Tickets.{found};
+ghost use Rattle.supervisor.specs.Job as Spec;
+ghost use Rattle.supervisor.specs.Steps.{Answers, job_view};
+
+use super::Job;
+use crate::errors::Refusal;
+use tickets::flag::Mark;
+
+impl Job {
+    // Whether a held ticket is raised, or the job is closed.
+    fn is_done(&self, ticket: u32) -> Result<bool, Refusal>
+        ensures { result ≡ Spec.looked (job_view self.now).closed (found ticket (job_view self.now).mailbox.tickets.table) }
+    {
+        match self.mailbox.tickets.mark(ticket) {
+            None | Some(Mark::Unheld) => Err(Refusal::Unknown),
+            Some(Mark::Held) => Ok(self.closed),
+            Some(Mark::Raised) => Ok(true),
+        }
+    }
+
+    // Whether a ticket is done: raised, or of a closed job.
+    pub fn look(&self, ticket: u32) -> Result<bool, Refusal>
+        ensures { result ≡ Spec.look ticket (job_view self.now) }
+    {
+        if ticket == 0 {
+            return Ok(true);
+        }
+        self.is_done(ticket)
+    }
+
+    // Gives a ticket back that is done; its place is free again.
+    pub fn collect(&mut self, ticket: u32) -> Result<(), Refusal>
+        ensures { Answers (Spec.collect ticket) self.old result self.new }
+    {
+        if ticket == 0 {
+            return Ok(());
+        }
+        if !self.is_done(ticket)? {
+            return Err(Refusal::Waiting);
+        }
+        self.mailbox.vacate(ticket);
+        Ok(())
+    }
+}
