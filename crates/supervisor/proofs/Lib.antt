@@ -3,3 +3,5 @@ pub mod Books
 pub mod Mailboxes
 pub mod Starts
 pub mod Steps
+pub mod Graces
+pub mod Counting

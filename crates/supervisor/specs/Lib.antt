@@ -2,6 +2,7 @@
 pub mod Answers
 pub mod Errors
 pub mod Job
+pub mod Laws
 pub mod Mailbox
 pub mod Sends
 pub mod Sound

@@ -57,3 +57,7 @@ module _ {H T : Type 0} {by_host : Host.Ghosts H} {by_terminal : Terminal.Ghosts
   -- the same run, with the tree at an equal value
   pub at_value : {A V : Type 0} (f : V → Interaction A) {v u : V} {w w' : World H T} {xs ys : List Record} {n : ℕ} {x : A} → v ≡ u → Conducts by_host by_terminal (f v) w xs x n w' ys → Conducts by_host by_terminal (f u) w xs x n w' ys
   at_value f e r = rw (← e) r
+
+  -- the records that were written are those of the trace
+  pub records_are : {A : Type 0} {t : Interaction A} {w w' : World H T} {xs ys : List Record} {x : A} {n : ℕ} (r : Conducts by_host by_terminal t w xs x n w' ys) → take n ys ≡ journal r.trace
+  records_are r = grind (arith, common_steps, r.count, r.sheet, journal-length r.trace)

@@ -2,12 +2,13 @@
 use Rattle.std.proofs.Common.{◌≡◌, ℕ, ◌+◌, ◌≤◌, Bool, true, cond, List, [], ◌∷◌, ◌++◌, length, get_or, set, Some, None, one-add, length-set, refl, ap, ◌∙◌, arith}
 use Rattle.std.specs.List.{position_or_len, position}
 use Rattle.std.proofs.lemmas.Bool.Decides.{nat_tests}
+use Rattle.std.proofs.lemmas.Grind.{common_steps}
 use Rattle.std.proofs.lemmas.List.{set_past}
 use Rattle.std.proofs.lemmas.List.Sums.{sum_by-cons}
 use Rattle.tickets.specs.declared.flag.Mark.{Mark}
-use Rattle.tickets.specs.declared.flag.Mark.TheVariants.{Raised}
+use Rattle.tickets.specs.declared.flag.Mark.TheVariants.{Held, Raised}
 use Rattle.tickets.specs.Weights.{weight, weigh, one_at, each}
-use Rattle.tickets.specs.Tickets.{Place, Table, place, is_waiting, is_raised, is_taken, change, raise, put, vacate, found, free, free_places, ticket_room}
+use Rattle.tickets.specs.Tickets.{Place, Table, place, is_waiting, is_raised, is_taken, change, raise, raise_each, put, vacate, found, free, free_places, ticket_room}
 
 -- WEIGHTS
 
@@ -110,3 +111,17 @@ vacate_waiting t (e ∷ es) h w = grind (arith, vacate_waiting t es)
 pub vacate-taken : (t : ℕ) (es : Table) (w : ℕ → ℕ) → weight is_taken w (vacate t es) ≤ weight is_taken w es
 vacate-taken t [] w = omega arith
 vacate-taken t (e ∷ es) w = grind (arith, vacate-taken t es w)
+
+-- a held ticket that waits is raised
+pub raise-held : (t : ℕ) (es : Table) → found t es ≡ Some Held → found t (raise t es) ≡ Some Raised
+raise-held t [] h = absurd cc
+raise-held t (e ∷ es) h = grind (arith, common_steps, raise-held t es)
+
+-- a raised ticket stays raised, whichever is raised
+pub raise-keeps : (s t : ℕ) (es : Table) → found s es ≡ Some Raised → found s (raise t es) ≡ Some Raised
+raise-keeps s t [] h = h
+raise-keeps s t (e ∷ es) h = grind (arith, common_steps, raise-keeps s t es)
+
+pub raise_each-keeps : (s : ℕ) (ts : List ℕ) (es : Table) → found s es ≡ Some Raised → found s (raise_each ts es) ≡ Some Raised
+raise_each-keeps s [] es h = h
+raise_each-keeps s (t ∷ ts) es h = raise_each-keeps s ts (raise t es) (raise-keeps s t es h)

@@ -13,6 +13,7 @@ use Rattle.task.proofs.Always.{always_ends}
 use Rattle.task.proofs.Grants.{poll_granted}
 use Rattle.task.proofs.Sheets.{at_value, then_done}
 use Rattle.supervisor.proofs.Mailboxes.{after_poll_in}
+use Rattle.supervisor.proofs.Graces.{child_accepted}
 use Rattle.supervisor.proofs.Steps.{accepted}
 use Rattle.supervisor.proofs.job.Job.child_step.Goals as goal
 
@@ -29,9 +30,12 @@ invariant_of-self-clause-granted g c =
     let run = c.in-Some.ensures.1 in
     (always_ends (Answered g.H.Host g.T.Terminal) (λ x. Granted x.0 × ⊤) (poll_child restart c.args.time t) _ _ run.trace _ (poll_granted restart c.args.time t c.args.self.now.granted) run.traces).0
 
-pub returns : goal.returns
-returns g c =
+pub returns-clause-stepped : goal.returns-clause-stepped
+returns-clause-stepped g c =
     let v = job_view c.args.self.now in
     let restart = is_some (memory v.mailbox.timer) in
     accepted g.met.H.Host.keeps g.met.T.Terminal.keeps Child c.args.time (sym c.in_ok-may_step.ensures)
     (then_done (poll_child restart c.args.time v.task) (watched c.args.time v) (cc) (at_value (λ (b : Bool). poll_child b c.args.time v.task) (c.is_some-restart.ensures ∙ ap is_some c.memory.ensures) c.in-Some.ensures.1))
+
+pub returns-clause-ended : goal.returns-clause-ended
+returns-clause-ended g c = child_accepted c.args.time _ _ _ (returns-clause-stepped g c).1

@@ -14,6 +14,7 @@ use Rattle.supervisor.specs.Sound.{InOrder}
 use Rattle.supervisor.specs.View.{mailbox_view}
 use Rattle.supervisor.proofs.job.Job.control_step.Given.{Over}
 use Rattle.supervisor.proofs.Mailboxes.{take_in, ending_room, settle_in}
+use Rattle.supervisor.proofs.Graces.{control_accepted}
 use Rattle.supervisor.proofs.Steps.{accepted}
 use Rattle.supervisor.proofs.job.Job.control_step.Goals as goal
 
@@ -43,14 +44,32 @@ invariant_of-self-2-clause-full g c = (in_order g c).full
 pub invariant_of-self-2-clause-granted : goal.invariant_of-self-2-clause-granted
 invariant_of-self-2-clause-granted g c = (ends g c).0
 
-pub returns-in_default : goal.returns-in_default
-returns-in_default g c =
+pub returns-in_default-clause-stepped : goal.returns-in_default-clause-stepped
+returns-in_default-clause-stepped g c =
     let j = c.args.self.now in
     accepted g.met.H.Host.keeps g.met.T.Terminal.keeps Control c.args.time (sym c.in_ok-may_step.ensures) (rw c.in_default.ensures.taken (silent (cc (c.in_default.ensures.idle refl))))
 
-pub returns : goal.returns
-returns g c =
+pub returns-clause-stepped : goal.returns-clause-stepped
+returns-clause-stepped g c =
     let v = job_view c.args.self.now in
     let r = c.in-Some.received in
     accepted g.met.H.Host.keeps g.met.T.Terminal.keeps Control c.args.time (sym c.in_ok-may_step.ensures)
     (rw c.in-Some.ensures.taken (then_done (control r.message.control c.args.time v.task) (carried c.args.time r (mailbox_view c.receive.new.self)) (cc) c.in-Some-control.ensures.1))
+
+pub returns-in_default-clause-deadline : goal.returns-in_default-clause-deadline
+returns-in_default-clause-deadline g c = (control_accepted c.args.time _ _ _ (c.args.self.now.in_order (grind (arith, nat_tests))) (returns-in_default-clause-stepped g c).1).0
+
+pub returns-in_default-clause-normal : goal.returns-in_default-clause-normal
+returns-in_default-clause-normal g c = (control_accepted c.args.time _ _ _ (c.args.self.now.in_order (grind (arith, nat_tests))) (returns-in_default-clause-stepped g c).1).1
+
+pub returns-in_default-clause-continues : goal.returns-in_default-clause-continues
+returns-in_default-clause-continues g c = (control_accepted c.args.time _ _ _ (c.args.self.now.in_order (grind (arith, nat_tests))) (returns-in_default-clause-stepped g c).1).2
+
+pub returns-clause-deadline : goal.returns-clause-deadline
+returns-clause-deadline g c = (control_accepted c.args.time _ _ _ (c.args.self.now.in_order (grind (arith, nat_tests))) (returns-clause-stepped g c).1).0
+
+pub returns-clause-normal : goal.returns-clause-normal
+returns-clause-normal g c = (control_accepted c.args.time _ _ _ (c.args.self.now.in_order (grind (arith, nat_tests))) (returns-clause-stepped g c).1).1
+
+pub returns-clause-continues : goal.returns-clause-continues
+returns-clause-continues g c = (control_accepted c.args.time _ _ _ (c.args.self.now.in_order (grind (arith, nat_tests))) (returns-clause-stepped g c).1).2
