@@ -112,7 +112,7 @@ impl Mailbox {
         ensures idle { result ≡ None → mailbox_view self.new ≡ mailbox_view self.old }
     {
         if let Some(message) = self.due(time) {
-            self.timer = None;
+            self.timer = None; // with it, the restart memory is emptied
             return Some(Received {
                 message,
                 source: Source::Timer,

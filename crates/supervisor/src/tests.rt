@@ -15,6 +15,7 @@ use host::state::{CommandState, ProcessEnd};
 use host::terminal::Terminal;
 use std::num::Wrapping;
 use std::test::Fail;
+use task::messages::Control;
 
 // A host whose roster holds no child: each spawn faults with 11, each call that names a child with 10.
 #[derive(Drop)]
@@ -258,7 +259,8 @@ fn a_spawn_fault_is_told_to_a_handler(rt: HostRuntime) -> Result<(), Fail> {
     let mut job = Job::new(1, 0)?;
     assert!(rt; job.start().is_ok());
     assert_eq!(rt; step(&mut job, 0), Ok(1));
-    job.set_handler(7);
+    assert!(rt; job.control(Control::SetErrorHandler(7)).is_ok());
+    assert_eq!(rt; step(&mut job, 0), Ok(0));
     assert!(rt; job.start().is_ok());
     assert_eq!(rt; step(&mut job, 1), Ok(2));
     assert!(rt; job.state().is_pending());
