@@ -1,5 +1,5 @@
 -- The mailbox stays in order: sending, taking, raising and collecting keep its tickets in balance.
-use Rattle.std.proofs.Common.{◌≡◌, ℕ, ◌+◌, ◌<◌, Some, List, [], ◌∷◌, ◌++◌, length, sym, ◌∙◌, arith}
+use Rattle.std.proofs.Common.{◌≡◌, ℕ, ◌<◌, Some, List, [], ◌∷◌, ◌++◌, length, sym, ◌∙◌, arith}
 use Rattle.std.proofs.lemmas.Grind.{common_steps}
 use Rattle.tickets.specs.declared.flag.Mark.TheVariants.{Raised}
 use Rattle.tickets.specs.Tickets.{raise_each, found}
@@ -11,8 +11,8 @@ use Rattle.supervisor.specs.declared.priority.Priority.{Priority}
 use Rattle.task.specs.declared.task.Outcome.{Outcome}
 use Rattle.task.specs.declared.task.Outcome.TheVariants.{Settled, Ended, Joined}
 use Rattle.task.specs.declared.task.PollOutcome.{PollOutcome}
-use Rattle.supervisor.specs.Mailbox.{QueuesView, MailboxView, with_queues, with_table, enqueued, send, take, raised, endings_raised, settle, after_poll, vacated}
-use Rattle.supervisor.specs.Sound.{weigh_queues, Balanced, InOrder}
+use Rattle.supervisor.specs.Mailbox.{QueuesView, MailboxView, with_queues, with_table, send, take, raised, endings_raised, settle, after_poll, vacated}
+use Rattle.supervisor.specs.Sound.{Balanced, InOrder}
 
 -- RAISING
 
@@ -32,7 +32,7 @@ endings_in hand m h = grind (arith, weigh-append, raise_each_in m.ending hand (r
 
 -- a message that is taken leaves its ticket in hand
 pub take_in : (m : MailboxView) (c : ControlMessage) (q : QueuesView) → InOrder [] m → take m.queues ≡ Some (c, q) → InOrder (c.ticket ∷ []) (with_queues q m)
-take_in m c q h e = grind (arith, common_steps)
+take_in m c q h e = grind arith
 
 -- OUTCOMES
 
@@ -50,12 +50,9 @@ ending_room t m h = grind (arith, h.balance each, weigh-each, waiting_few)
 
 -- SENDING
 
-weigh_enqueued : (p : Priority) (w : ℕ → ℕ) (c : ControlMessage) (q : QueuesView) → weigh_queues w (enqueued p c q) ≡ weigh_queues w q + w c.ticket
-weigh_enqueued p w c q = grind (arith, common_steps, weigh-append)
-
 -- a control is sent
 pub send_in : (p : Priority) (c : Control) (m : MailboxView) → InOrder [] m → InOrder [] (send p c m).0
-send_in p c m h = grind (arith, weigh_enqueued, put-weight, change-length)
+send_in p c m h = grind (arith, common_steps, weigh-append, put-weight, change-length)
 
 -- COLLECTING
 

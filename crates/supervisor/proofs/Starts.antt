@@ -9,7 +9,7 @@ use Rattle.supervisor.specs.Mailbox.{Taken, take}
 
 carry_few : (t : Taken) (time : ℕ) (v : JobView) → Few 1 (carry_out t time v)
 carry_few None time v = tt
-carry_few (Some (c, q)) time v = few_then 1 0 (Tree.control c.control time v.task) _ (control_few c.control time v.task) (λ _. tt)
+carry_few (Some (c, q)) time v = few_then 1 0 _ _ (control_few c.control time v.task) (λ _. tt)
 
 pub step_few : (kind : StepKind) (time : ℕ) (v : JobView) → Few 1 (tree_of kind time v)
 step_few Control time v = carry_few (take v.mailbox.queues) time v

@@ -68,8 +68,8 @@ impl Job {
         self.task.state
     }
 
-    // Any of the sends. The answer is a ticket, which is raised once the job has done what was sent. A closed job answers ticket 0,
-    // as the Rust does: it can be looked at and collected as any other, so it is no Option.
+    // Any of the sends. The answer is a ticket, which is raised once the job has done what was sent. A closed job answers
+    // ticket 0, as the Rust does: it can be looked at and collected as any other, so it is no Option.
     pub fn send(&mut self, send: Send) -> Result<u32, Refusal>
         ensures { Answers (Spec.send (priority_of send) (control_of send)) self.old result self.new }
     {
