@@ -13,7 +13,7 @@ use Rattle.drive.specs.declared.calls.Call.TheVariants.{Step}
 use Rattle.drive.specs.declared.calls.Done.{Done}
 use Rattle.drive.specs.declared.calls.Tally.{Tally}
 use Rattle.drive.specs.Calls.{Makes}
-use Rattle.drive.specs.Runs.{Turn, Linked, answers_of, tried_in, ordered_in, Ran}
+use Rattle.drive.specs.Runs.{Turn, Linked, answers_of, tried_in, ordered_in, Completes}
 use Rattle.drive.proofs.Steps.{step_few, step-spawns}
 
 -- ONE MORE
@@ -37,12 +37,12 @@ module _ {H T : Type 0} (by_host : Host.Ghosts H) (by_terminal : Terminal.Ghosts
   -- a call tries at most one start, and takes at most one order
   makes_few : (c : Call) (a : Moment H T) (d : Done) (b : Moment H T) → Makes by_host by_terminal c a d b → (d.tally.tried ≤ 1) × (d.tally.ordered ≤ 1)
   makes_few (Step kind time) a d b r = rw r.does (step_few by_host by_terminal (tree_of kind) time a b r.answer r.step)
-  makes_few c a d b r = (omega (arith, r.tried), omega (arith, r.ordered))
+  makes_few c a d b r = grind arith
 
   -- and the host's count of spawns grows by the starts tried
   makes-spawns : (c : Call) (a : Moment H T) (d : Done) (b : Moment H T) → Makes by_host by_terminal c a d b → (by_host.book b.host).spawns % 2 ^ 64 ≡ ((by_host.book a.host).spawns + d.tally.tried) % 2 ^ 64
   makes-spawns (Step kind time) a d b r = rw r.does (step-spawns by_host by_terminal (tree_of kind) time a b r.answer r.step)
-  makes-spawns c a d b r = rw (r.host, r.tried) (omega arith)
+  makes-spawns c a d b r = grind arith
 
   linked-spawns : (cs : List Call) (a : Moment H T) (ts : List (Turn (Moment H T))) (b : Moment H T) → Linked (Makes by_host by_terminal) cs a ts b → (by_host.book b.host).spawns % 2 ^ 64 ≡ ((by_host.book a.host).spawns + tried_in ts) % 2 ^ 64
   linked-spawns [] a ts b h = rw (h.0, h.1) (omega arith)
@@ -76,7 +76,7 @@ module _ {H T : Type 0} (by_host : Host.Ghosts H) (by_terminal : Terminal.Ghosts
       }
 
   -- all calls were made
-  pub all_made : {calls : List Call} {i : ℕ} {a : Moment H T} {xs : List (Result ℕ Refusal)} {tally : Tally} {b : Moment H T} {ys : List (Result ℕ Refusal)} → i ≡ length calls → SoFar calls i a xs tally.tried tally.ordered b ys → Ran by_host by_terminal calls a xs tally b ys
+  pub all_made : {calls : List Call} {i : ℕ} {a : Moment H T} {xs : List (Result ℕ Refusal)} {tally : Tally} {b : Moment H T} {ys : List (Result ℕ Refusal)} → i ≡ length calls → SoFar calls i a xs tally.tried tally.ordered b ys → Completes by_host by_terminal calls a xs tally b ys
   all_made {calls} {i} {a} {xs} {tally} {b} {ys} e h =
       let all : Linked (Makes by_host by_terminal) calls a h.turns b = rw (take_all i calls (omega arith)) at h.linked in
       record {
