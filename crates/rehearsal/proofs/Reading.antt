@@ -9,8 +9,8 @@ use Rattle.std.proofs.lemmas.List.{get_or_append_left, take_more, take_all}
 use Rattle.std.proofs.lemmas.List.Elements.{All-from_all_within, AllWithin-upto}
 use Rattle.std.proofs.lemmas.List.Splits.{slice_split_at, slice_split_none}
 use Rattle.rehearsal.specs.declared.line.Line.{Line}
-use Rattle.rehearsal.specs.declared.script.Fault.{Fault}
-use Rattle.rehearsal.specs.declared.script.Fault as Faults
+use Rattle.rehearsal.specs.declared.script.ScriptFault.{ScriptFault}
+use Rattle.rehearsal.specs.declared.script.ScriptFault as ScriptFaults
 use Rattle.rehearsal.specs.Lines.{line_of}
 use Rattle.rehearsal.specs.declared.script.ReadError.{ReadError}
 use Rattle.rehearsal.specs.declared.script.ReadError.TheVariants.{Faulty, Memory}
@@ -21,16 +21,16 @@ abbrev pub is_feed : ℕ → Bool
 is_feed b = eqb b 10
 
 -- what a text says, the first line of which is line n
-abbrev pub said : ℕ → List ℕ → Result (List Line) Fault
+abbrev pub said : ℕ → List ℕ → Result (List Line) ScriptFault
 said n text = lines_from n (slice_split is_feed text)
 
 -- lines that were read, before what is still to read
-abbrev pub after_lines : List Line → Result (List Line) Fault → Result (List Line) Fault
+abbrev pub after_lines : List Line → Result (List Line) ScriptFault → Result (List Line) ScriptFault
 after_lines read (Ok lines) = Ok (read ++ lines)
 after_lines read (Err fault) = Err fault
 
 -- one line more was read
-pub one_more : (read : List Line) (n : ℕ) (line : Line) (others : Result (List Line) Fault) → after_lines (read ++ line ∷ []) others ≡ after_lines read (with_line n (Some line) others)
+pub one_more : (read : List Line) (n : ℕ) (line : Line) (others : Result (List Line) ScriptFault) → after_lines (read ++ line ∷ []) others ≡ after_lines read (with_line n (Some line) others)
 one_more read n line (Ok lines) = ap Ok (append_assoc read (line ∷ []) lines)
 one_more read n line (Err fault) = refl
 
@@ -54,7 +54,7 @@ before_text n text (b ∷ bs) =
     [ true ↦ refl | false ↦ before_part n text b (slice_split is_feed bs) ]
 
 -- a text that is begun and not ended is faulty
-alone : (n : ℕ) (text : List ℕ) → 0 < length text → lines_from n (text ∷ []) ≡ Err (Faults.TheVariants.Line n)
+alone : (n : ℕ) (text : List ℕ) → 0 < length text → lines_from n (text ∷ []) ≡ Err (ScriptFaults.TheVariants.Line n)
 alone n [] begun = absurd (omega arith)
 alone n (b ∷ text) begun = refl
 
@@ -67,7 +67,7 @@ first_line {rest} {piece} {behind} is n line o fed says =
     ap (lines_from n) (ap (slice_split is_feed) whole ∙ slice_split_at is_feed line 10 behind clear refl) ∙ before_text n line behind ∙ ap (λ o. with_line n o (said (n + 1) behind)) (sym says)
 
 -- a piece that doesn't is all that is left, and faulty
-pub unended : {rest piece behind : List ℕ} → IsPiece rest piece behind → (n : ℕ) → ((front : List ℕ) → piece ≢ front ++ 10 ∷ []) → said n rest ≡ Err (Faults.TheVariants.Line n)
+pub unended : {rest piece behind : List ℕ} → IsPiece rest piece behind → (n : ℕ) → ((front : List ℕ) → piece ≢ front ++ 10 ∷ []) → said n rest ≡ Err (ScriptFaults.TheVariants.Line n)
 unended {rest} {piece} {behind} is n unfed =
     ⊎_elim
     (λ inside.
@@ -78,16 +78,16 @@ unended {rest} {piece} {behind} is n unfed =
     (order is.at (length rest))
 
 -- a script that isn't too long says what was read and what is left
-pub script_from : (s : List ℕ) (read : List Line) (left : Result (List Line) Fault) → length s ≤ 32768 → after_lines read left ≡ said 1 s → script_of s ≡ after_lines read left
-script_from s read left short e = cond-false (ltb 32768 (length s)) (Err Faults.TheVariants.TooLong) (said 1 s) (le-ltb 32768 (length s) short) ∙ sym e
+pub script_from : (s : List ℕ) (read : List Line) (left : Result (List Line) ScriptFault) → length s ≤ 32768 → after_lines read left ≡ said 1 s → script_of s ≡ after_lines read left
+script_from s read left short e = cond-false (ltb 32768 (length s)) (Err ScriptFaults.TheVariants.TooLong) (said 1 s) (le-ltb 32768 (length s) short) ∙ sym e
 
 -- why an `ok_or` is an error
-pub missing : {A : Type 0} (o : Option A) (fault f : Fault) (r : Result A Fault) → r ≡ ok_or o fault → r ≡ Err f → (o ≡ None) × (f ≡ fault)
+pub missing : {A : Type 0} (o : Option A) (fault f : ScriptFault) (r : Result A ScriptFault) → r ≡ ok_or o fault → r ≡ Err f → (o ≡ None) × (f ≡ fault)
 missing None fault f r e k = (refl, cc)
 missing (Some x) fault f r e k = absurd cc
 
 -- a fault that is answered is the script's
-pub faulty : {V : Type 0} (P : V → Type 0) (fault : Fault) (r : Result V ReadError) (says : Result (List Line) Fault) → IsErr r × IsErrAnd r (λ e. e ≡ Faulty fault) → says ≡ Err fault → MatchResult r P (Explains says)
+pub faulty : {V : Type 0} (P : V → Type 0) (fault : ScriptFault) (r : Result V ReadError) (says : Result (List Line) ScriptFault) → IsErr r × IsErrAnd r (λ e. e ≡ Faulty fault) → says ≡ Err fault → MatchResult r P (Explains says)
 faulty P fault (Ok v) says k e = absurd cc
 faulty P fault (Err (Faulty f)) says k e = let same : f ≡ fault = cc in e ∙ ap Err (sym same)
 faulty P fault (Err Memory) says k e = tt

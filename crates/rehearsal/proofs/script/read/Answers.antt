@@ -6,7 +6,7 @@ use Rattle.std.specs.Slice.Iter.{split_inclusive_rest}
 use Rattle.std.proofs.lemmas.Bool.Decides.{Decides-eqb}
 use Rattle.std.proofs.lemmas.List.Sorted.{answers_always}
 use Rattle.std.proofs.lemmas.Slice.Eq.{strip_suffix_is}
-use Rattle.rehearsal.specs.declared.script.Fault as Faults
+use Rattle.rehearsal.specs.declared.script.ScriptFault as ScriptFaults
 use Rattle.rehearsal.specs.Lines.{line_of}
 use Rattle.rehearsal.proofs.Reading.{IsPiece, is_feed, after_lines, said, script_from, faulty, missing, first_line, unended, one_more}
 use Rattle.rehearsal.proofs.script.read.Goals as goal
@@ -35,7 +35,7 @@ pub returns-in_err-text : goal.returns-in_err-text
 returns-in_err-text c =
     let n = c.in-Some.i + 1 in
     let stripped = strip_suffix_is Decides-eqb c.in-Some.piece.now (10 ∷ []) c.strip_suffix.result c.strip_suffix.ensures.cases in
-    let none = missing c.strip_suffix.result (Faults.TheVariants.Line n) c.in_err-text.field-0.0 c.ok_or.result c.ok_or.ensures.value c.in_err-text.was in
+    let none = missing c.strip_suffix.result (ScriptFaults.TheVariants.Line n) c.in_err-text.field-0.0 c.ok_or.result c.ok_or.ensures.value c.in_err-text.was in
     let left = unended (piece (goal.at.returns-in_err-text c).In-Some) (enumerate_count c.loop-i.i-iterator + 1) (rw none.0 at stripped) in
     let says = script_from c.args.script.now _ _ (omega arith) c.loop-i.invariant.read ∙ ap (after_lines c.loop-i.lines.items) left in
     faulty _ _ _ _ (rw (none.1, c.in-Some.ensures.steps.1) at c.from_residual.ensures) says
@@ -45,7 +45,7 @@ returns-in_err-line c =
     let at = goal.at.returns-in_err-line c in
     let n = c.in-Some.i + 1 in
     let count = c.in-Some.ensures.steps.1 in
-    let none = missing c.parse.result (Faults.TheVariants.Line n) c.in_err-line.field-0.0 c.ok_or-in-loop-i.result c.ok_or-in-loop-i.ensures.value c.in_err-line.was in
+    let none = missing c.parse.result (ScriptFaults.TheVariants.Line n) c.in_err-line.field-0.0 c.ok_or-in-loop-i.result c.ok_or-in-loop-i.ensures.value c.in_err-line.was in
     let left = first_line (piece at.In-Some) (enumerate_count c.loop-i.i-iterator + 1) c.in_ok-text.text.now None (fed at.In_ok-text) (sym none.0 ∙ c.parse.ensures ∙ ap (λ i. line_of (eqb (i + 1) 1) c.in_ok-text.text.now) count) in
     let says = script_from c.args.script.now _ _ (omega arith) c.loop-i.invariant.read ∙ ap (after_lines c.loop-i.lines.items) left in
     faulty _ _ _ _ (rw (none.1, count) at c.from_residual-in_err-line.ensures) says
