@@ -5,6 +5,7 @@ ghost use Rattle.rehearsal.specs.Script.{Explains, script_of};
 
 use crate::MOST_BYTES;
 use crate::line::{Line, parse};
+use crate::parts::cut;
 use std::alloc::{AllocError, AllocFailed, Global};
 
 // What is wrong with a script: it is too long, or the line of this number is faulty.
@@ -53,11 +54,17 @@ pub(crate) fn read(heap: Global, script: &[u8]) -> Result<Vec<Line>, ReadError>
         return Err(ScriptFault::TooLong.into());
     }
     let mut lines = Vec::new(heap);
-    for (i, piece) in script.split_inclusive(|byte| *byte == b'\n').enumerate() {
-        let number = i + 1;
-        let text = piece.strip_suffix(b"\n").ok_or(ScriptFault::Line(number))?;
-        let line = parse(text, number == 1).ok_or(ScriptFault::Line(number))?;
+    let mut rest = script;
+    while let Some((text, behind)) = cut(rest, b'\n') {
+        let number = lines.len() + 1;
+        let Some(line) = parse(text, number == 1) else {
+            return Err(ScriptFault::Line(number).into());
+        };
         lines.push(line)?;
+        rest = behind;
+    }
+    if !rest.is_empty() {
+        return Err(ScriptFault::Line(lines.len() + 1).into());
     }
     Ok(lines)
 }
