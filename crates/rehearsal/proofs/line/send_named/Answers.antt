@@ -5,3 +5,6 @@ use Rattle.rehearsal.proofs.line.send_named.Goals as goal
 
 pub returns-in-116 : goal.returns-in-116
 returns-in-116 c = rw (text_from_reads c.args.name.now (codes "to_wait") (omega arith) (search rules)) refl
+
+pub returns-in-start : goal.returns-in-start
+returns-in-start c = rw (text_from_reads c.args.name.now (codes "start") (omega arith) (search rules)) refl

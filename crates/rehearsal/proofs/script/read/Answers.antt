@@ -1,6 +1,5 @@
 -- Each text up to a line feed is a line, or the first faulty one.
 use Rattle.std.proofs.Common.{◌+◌, Some, None, sym, ap, ◌∙◌, arith}
-use Rattle.std.proofs.lemmas.Bool.Decides.{nat_tests}
 use Rattle.rehearsal.proofs.Reading.{after_lines, said, first_line, unended, one_more}
 use Rattle.rehearsal.proofs.script.read.Goals as goal
 
@@ -18,6 +17,4 @@ loop-text-preserved c =
     (rw (sym c.len-number.ensures) at c.loop-text.invariant ∙ ap (after_lines c.loop-text.lines.items) left)
 
 pub returns-then-not-is_empty : goal.returns-then-not-is_empty
-returns-then-not-is_empty c =
-    let left = unended (c.len.result + 1) c.loop-text.rest.now c.in_default.ensures (grind (arith, nat_tests)) in
-    rw c.into-then-not-is_empty.ensures (rw (sym c.len.ensures) at c.loop-text.invariant ∙ ap (after_lines c.loop-text.lines.items) left)
+returns-then-not-is_empty c = grind (arith, unended)
