@@ -1,5 +1,5 @@
 -- What one call of a run does to a job, its host, its terminal and the sheet.
-use Rattle.std.specs.Prelude.{◌≡◌, ℕ, ◌^◌, if◌then◌else◌, Err, Result, nat_lt, ⊤}
+use Rattle.std.specs.Prelude.{◌≡◌, ℕ, ◌^◌, if◌then◌else◌, Ok, Err, Result, nat_lt, ⊤}
 use Rattle.std.specs.Int.{from_bool}
 use Rattle.std.specs.Result.{result_map_both}
 use Rattle.host.specs.declared.process.Host as Host
@@ -16,16 +16,22 @@ use Rattle.drive.specs.declared.calls.Call.TheVariants.{Send, Step, Look, Collec
 use Rattle.drive.specs.declared.calls.Done.{Done}
 use Rattle.drive.specs.Answers.{only_answered, step_done}
 
--- the look at a ticket, and its collect: no ticket has a number of more than 32 bits
-abbrev pub looked : ℕ → JobView → Result ℕ Refusal
-looked ticket v = if nat_lt ticket (2 ^ 32) then result_map_both from_bool (λ refusal. refusal) (look ticket v) else Err Unknown
+-- no ticket has a number of more than 32 bits
+abbrev pub known : ℕ → Result ℕ Refusal
+known ticket = if nat_lt ticket (2 ^ 32) then Ok ticket else Err Unknown
 
--- a collect that is granted answers 0
+-- the look at a ticket, if it is known
+abbrev pub looked : Result ℕ Refusal → JobView → Result ℕ Refusal
+looked (Ok ticket) v = result_map_both from_bool (λ refusal. refusal) (look ticket v)
+looked (Err refusal) v = Err refusal
+
+-- its collect; one that is granted answers 0
 abbrev pub with_zero : JobView × Result ⊤ Refusal → JobView × Result ℕ Refusal
 with_zero x = (x.0, result_map_both (λ _. 0) (λ refusal. refusal) x.1)
 
-abbrev pub collected : ℕ → JobView → JobView × Result ℕ Refusal
-collected ticket v = if nat_lt ticket (2 ^ 32) then with_zero (collect ticket v) else (v, Err Unknown)
+abbrev pub collected : Result ℕ Refusal → JobView → JobView × Result ℕ Refusal
+collected (Ok ticket) v = with_zero (collect ticket v)
+collected (Err refusal) v = (v, Err refusal)
 
 module _ {H T : Type 0} (by_host : Host.Ghosts H) (by_terminal : Terminal.Ghosts T) where
   -- a call that asks nothing outside: the job answers it as f
@@ -46,5 +52,5 @@ module _ {H T : Type 0} (by_host : Host.Ghosts H) (by_terminal : Terminal.Ghosts
   abbrev pub Makes : Call → Moment H T → Done → Moment H T → Type 0
   Makes (Send s) a d b = Quiet (send (priority_of s) (control_of s)) a d b
   Makes (Step kind time) a d b = Moved (tree_of kind) time a d b
-  Makes (Look ticket) a d b = (d ≡ only_answered (looked ticket (job_view a.job))) × (b ≡ a)
-  Makes (Collect ticket) a d b = Quiet (collected ticket) a d b
+  Makes (Look ticket) a d b = (d ≡ only_answered (looked (known ticket) (job_view a.job))) × (b ≡ a)
+  Makes (Collect ticket) a d b = Quiet (collected (known ticket)) a d b

@@ -1,6 +1,5 @@
 // A run of calls on a job, a host and a terminal, with one sheet.
-ghost use Rattle.std.specs.Prelude.{◌≡◌, ◌≤◌, ◌^◌, if◌then◌else◌, length, take, nat_lt, Ok, Err, IfOk};
-ghost use Rattle.supervisor.specs.declared.errors.Refusal.TheVariants.{Unknown};
+ghost use Rattle.std.specs.Prelude.{◌≡◌, ◌≤◌, length, take, IfOk};
 ghost use Rattle.supervisor.specs.Steps as Steps;
 ghost use Rattle.supervisor.specs.Steps.{job_view, moment};
 ghost use Rattle.drive.specs.Answers as Answers;
@@ -48,19 +47,19 @@ fn stepped(answer: Result<Stepped, Refusal>, sheet: &[Record]) -> Done
 
 // No ticket has a number of more than 32 bits.
 fn known(ticket: u64) -> Result<u32, Refusal>
-    ensures { result ≡ (if nat_lt ticket (2 ^ 32) then Ok ticket else Err Unknown) }
+    ensures { result ≡ Calls.known ticket }
 {
     u32::try_from(ticket).map_err(|_| Refusal::Unknown)
 }
 
 fn look(job: &Job, ticket: u64) -> Result<u32, Refusal>
-    ensures { result ≡ Calls.looked ticket (job_view job.now) }
+    ensures { result ≡ Calls.looked (Calls.known ticket) (job_view job.now) }
 {
     Ok(u32::from(job.look(known(ticket)?)?))
 }
 
 fn collect(job: &mut Job, ticket: u64) -> Result<u32, Refusal>
-    ensures { Steps.Answers (Calls.collected ticket) job.old result job.new }
+    ensures { Steps.Answers (Calls.collected (Calls.known ticket)) job.old result job.new }
 {
     job.collect(known(ticket)?)?;
     Ok(0)
