@@ -37,7 +37,7 @@ abbrev pub moment : Rehearsal → Moment SimulatedHost AbsentTerminal
 moment r = record { job = r.job; host = r.host; terminal = r.terminal; sheet = r.sheet }
 
 abbrev pub by_simulated : Host.Ghosts SimulatedHost
-by_simulated = record { most = 16; book = λ h. Simulated.book_of (Simulated.view h); did = Simulated.Did }
+by_simulated = record { MOST = 16; book = λ h. Simulated.book_of (Simulated.view h); did = Simulated.Did }
 
 abbrev pub by_absent : Terminal.Ghosts AbsentTerminal
 by_absent = record { book = Absent.book_of; did = Absent.Did }

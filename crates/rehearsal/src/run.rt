@@ -16,19 +16,16 @@ use host::journal::Record;
 use hosts::simulated::SimulatedHost;
 use std::alloc::{AllocError, Global};
 use supervisor::errors::Refusal;
-use supervisor::job::Job;
+use supervisor::job::{Job, LEAST_PLACES};
 
 const PROGRAM: u8 = 1;
-
-// A step needs 8 places.
-const PLACES: usize = 8;
 
 #[derive(Drop)]
 pub struct Rehearsal {
     job: Job,
     host: SimulatedHost,
     terminal: AbsentTerminal,
-    sheet: [Record; PLACES],
+    sheet: [Record; LEAST_PLACES],
 }
 
 // No child has a number of more than 32 bits.
@@ -67,7 +64,7 @@ impl Rehearsal {
             job,
             host,
             terminal: AbsentTerminal::new(),
-            sheet: [Record::BLANK; PLACES],
+            sheet: [Record::BLANK; LEAST_PLACES],
         })
     }
 
