@@ -103,3 +103,19 @@ fn a_short_sheet_refuses_each_step(rt: HostRuntime) -> Result<(), Fail> {
     assert_eq!(rt; answers, [Ok(1), Err(Refusal::Sheet), Err(Refusal::Sheet)]);
     Ok(())
 }
+
+// Cut to 32 bits, the number would be that of ticket 0, which is always done.
+#[test]
+fn a_ticket_over_32_bits_is_unknown(rt: HostRuntime) -> Result<(), Fail> {
+    let mut job = Job::new(1, 0)?;
+    let mut sheet = [Record::BLANK; 8];
+    let mut answers = [Err(Refusal::Line); 2];
+    let calls = [
+        Call::Look { ticket: 1 << 32 },
+        Call::Collect { ticket: 1 << 32 },
+    ];
+    let tally = run(&mut job, &calls, &mut sheet, &mut answers);
+    assert_eq!(rt; tally, Ok(Tally::default()));
+    assert_eq!(rt; answers, [Err(Refusal::Unknown), Err(Refusal::Unknown)]);
+    Ok(())
+}

@@ -1,7 +1,6 @@
 -- How a run goes on, call by call.
 use Rattle.std.proofs.Common.{◌≡◌, ℕ, ◌+◌, ◌%◌, ◌^◌, ◌<◌, ◌≤◌, List, [], ◌∷◌, ◌++◌, length, get_or, take, drop, set, Ok, Result, refl, arith, length-take}
 use Rattle.std.proofs.lemmas.List.{map-append, take_more, drop_more, take_all, set-append_right}
-use Rattle.std.proofs.lemmas.List.Sums.{sum_by-cons, sum_by_push}
 use Rattle.std.proofs.lemmas.Grind.{common_steps}
 use Rattle.host.specs.declared.process.Host as Host
 use Rattle.host.specs.declared.terminal.Terminal as Terminal
@@ -13,7 +12,7 @@ use Rattle.drive.specs.declared.calls.Call.TheVariants.{Step}
 use Rattle.drive.specs.declared.calls.Done.{Done}
 use Rattle.drive.specs.declared.calls.Tally.{Tally}
 use Rattle.drive.specs.Calls.{Makes}
-use Rattle.drive.specs.Runs.{Turn, Linked, answers_of, tried_in, ordered_in, Ran}
+use Rattle.drive.specs.Runs.{Turn, Linked, answers_of, tried_in, ordered_in, Completes}
 use Rattle.drive.proofs.Steps.{step_few, step-spawns}
 
 -- ONE MORE
@@ -37,16 +36,16 @@ module _ {H T : Type 0} (by_host : Host.Ghosts H) (by_terminal : Terminal.Ghosts
   -- a call tries at most one start, and takes at most one order
   makes_few : (c : Call) (a : Moment H T) (d : Done) (b : Moment H T) → Makes by_host by_terminal c a d b → (d.tally.tried ≤ 1) × (d.tally.ordered ≤ 1)
   makes_few (Step kind time) a d b r = rw r.does (step_few by_host by_terminal (tree_of kind) time a b r.answer r.step)
-  makes_few c a d b r = (omega (arith, r.tried), omega (arith, r.ordered))
+  makes_few c a d b r = grind arith
 
   -- and the host's count of spawns grows by the starts tried
   makes-spawns : (c : Call) (a : Moment H T) (d : Done) (b : Moment H T) → Makes by_host by_terminal c a d b → (by_host.book b.host).spawns % 2 ^ 64 ≡ ((by_host.book a.host).spawns + d.tally.tried) % 2 ^ 64
   makes-spawns (Step kind time) a d b r = rw r.does (step-spawns by_host by_terminal (tree_of kind) time a b r.answer r.step)
-  makes-spawns c a d b r = rw (r.host, r.tried) (omega arith)
+  makes-spawns c a d b r = grind arith
 
   linked-spawns : (cs : List Call) (a : Moment H T) (ts : List (Turn (Moment H T))) (b : Moment H T) → Linked (Makes by_host by_terminal) cs a ts b → (by_host.book b.host).spawns % 2 ^ 64 ≡ ((by_host.book a.host).spawns + tried_in ts) % 2 ^ 64
-  linked-spawns [] a ts b h = rw (h.0, h.1) (omega arith)
-  linked-spawns (c ∷ cs) a ts b h = rw (h.2, sum_by-cons (λ (u : Turn (Moment H T)). u.did.tally.tried) h.0 h.1) (omega (arith, linked-spawns cs h.0.at h.1 b h.4, makes-spawns c a h.0.did h.0.at h.3))
+  linked-spawns [] a ts b h = grind arith
+  linked-spawns (c ∷ cs) a ts b h = grind (arith, common_steps, linked-spawns cs h.0.at h.1 b h.4, makes-spawns c a h.0.did h.0.at h.3)
 
   -- the first i calls were made, with at most one start and one order each
   pub record SoFar (calls : List Call) (i : ℕ) (a : Moment H T) (xs : List (Result ℕ Refusal)) (tried ordered : ℕ) (b : Moment H T) (ys : List (Result ℕ Refusal)) : Type 0 where
@@ -69,14 +68,14 @@ module _ {H T : Type 0} (by_host : Host.Ghosts H) (by_terminal : Terminal.Ghosts
         turns = h.turns ++ t ∷ [];
         linked = rw (take_more calls i z l) (linked_more (Makes by_host by_terminal) (take i calls) a h.turns b (get_or calls i z) t h.linked r);
         answers = cc (h.answers, written_more (answers_of h.turns) xs i t.did.answer count k, map-append (λ (u : Turn (Moment H T)). u.did.answer) h.turns (t ∷ []));
-        tried_is = grind (arith, common_steps, sum_by_push (λ (u : Turn (Moment H T)). u.did.tally.tried) h.turns t);
-        ordered_is = grind (arith, common_steps, sum_by_push (λ (u : Turn (Moment H T)). u.did.tally.ordered) h.turns t);
-        tried_few = omega (arith, h.tried_few, few.0);
-        ordered_few = omega (arith, h.ordered_few, few.1);
+        tried_is = grind (arith, common_steps);
+        ordered_is = grind (arith, common_steps);
+        tried_few = omega arith;
+        ordered_few = omega arith;
       }
 
   -- all calls were made
-  pub all_made : {calls : List Call} {i : ℕ} {a : Moment H T} {xs : List (Result ℕ Refusal)} {tally : Tally} {b : Moment H T} {ys : List (Result ℕ Refusal)} → i ≡ length calls → SoFar calls i a xs tally.tried tally.ordered b ys → Ran by_host by_terminal calls a xs tally b ys
+  pub all_made : {calls : List Call} {i : ℕ} {a : Moment H T} {xs : List (Result ℕ Refusal)} {tally : Tally} {b : Moment H T} {ys : List (Result ℕ Refusal)} → i ≡ length calls → SoFar calls i a xs tally.tried tally.ordered b ys → Completes by_host by_terminal calls a xs tally b ys
   all_made {calls} {i} {a} {xs} {tally} {b} {ys} e h =
       let all : Linked (Makes by_host by_terminal) calls a h.turns b = rw (take_all i calls (omega arith)) at h.linked in
       record {
@@ -85,5 +84,5 @@ module _ {H T : Type 0} (by_host : Host.Ghosts H) (by_terminal : Terminal.Ghosts
         answers = cc;
         tried = h.tried_is;
         ordered = h.ordered_is;
-        spawned = rw h.tried_is (linked-spawns calls a h.turns b all);
+        spawned = grind (arith, linked-spawns calls a h.turns b all);
       }

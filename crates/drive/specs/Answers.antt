@@ -1,8 +1,7 @@
 -- What a call of a run did, by its answer and the sheet after it.
-use Rattle.std.specs.Prelude.{ℕ, Bool, true, false, List, take, Ok, Err, Result, ⊤}
+use Rattle.std.specs.Prelude.{ℕ, Bool, true, false, List, take, Ok, Err, Result}
 use Rattle.std.specs.Int.{from_bool}
 use Rattle.std.specs.List.{count_by}
-use Rattle.std.specs.Result.{result_map_both}
 use Rattle.host.specs.declared.journal.CallKind.{CallKind}
 use Rattle.host.specs.declared.journal.CallKind.TheVariants.{Spawn}
 use Rattle.host.specs.declared.journal.Record.{Record}
@@ -12,24 +11,22 @@ use Rattle.supervisor.specs.Answers.{progress_number}
 use Rattle.drive.specs.declared.calls.Done.{Done}
 
 -- a call is a spawn
-abbrev pub is_spawn : CallKind → Bool
-is_spawn Spawn = true
-is_spawn call = false
+abbrev pub is_spawn_kind : CallKind → Bool
+is_spawn_kind Spawn = true
+is_spawn_kind call = false
 
 -- the spawns among records
 abbrev pub spawn_records : List Record → ℕ
-spawn_records rs = count_by (λ r. is_spawn r.call) rs
+spawn_records rs = count_by (λ r. is_spawn_kind r.call) rs
 
-abbrev pub done : Result ℕ Refusal → ℕ → ℕ → Done
-done answer tried ordered = record { answer = answer; tally = record { tried = tried; ordered = ordered } }
+abbrev pub done : Result ℕ Refusal → ℕ → ℕ → ℕ → Done
+done answer records tried ordered = record { answer = answer; records = records; tally = record { tried = tried; ordered = ordered } }
 
-abbrev pub look_value : Result Bool Refusal → Result ℕ Refusal
-look_value r = result_map_both from_bool (λ e. e) r
-
-abbrev pub collect_value : Result ⊤ Refusal → Result ℕ Refusal
-collect_value r = result_map_both (λ _. 0) (λ e. e) r
+-- no records were written, and nothing counts
+abbrev pub only_answered : Result ℕ Refusal → Done
+only_answered answer = done answer 0 0 0
 
 -- what a step did, by its answer and the sheet after it
 abbrev pub step_done : Result Stepped Refusal → List Record → Done
-step_done (Ok s) sheet = done (Ok (progress_number s.progress)) (spawn_records (take s.records sheet)) (from_bool s.ordered)
-step_done (Err r) sheet = done (Err r) 0 0
+step_done (Ok s) sheet = done (Ok (progress_number s.progress)) s.records (spawn_records (take s.records sheet)) (from_bool s.ordered)
+step_done (Err r) sheet = only_answered (Err r)

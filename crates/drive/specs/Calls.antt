@@ -1,28 +1,46 @@
 -- What one call of a run does to a job, its host, its terminal and the sheet.
-use Rattle.std.specs.Prelude.{◌≡◌, ℕ, Result, OnErr}
+use Rattle.std.specs.Prelude.{◌≡◌, ℕ, ◌^◌, if◌then◌else◌, Ok, Err, Result, nat_lt, ⊤}
+use Rattle.std.specs.Int.{from_bool}
+use Rattle.std.specs.Result.{result_map_both}
 use Rattle.host.specs.declared.process.Host as Host
 use Rattle.host.specs.declared.terminal.Terminal as Terminal
 use Rattle.host.specs.Interaction.{Interaction}
 use Rattle.supervisor.specs.declared.errors.Refusal.{Refusal}
+use Rattle.supervisor.specs.declared.errors.Refusal.TheVariants.{Unknown}
 use Rattle.supervisor.specs.declared.answers.Stepped.{Stepped}
 use Rattle.supervisor.specs.Job.{JobView, Stepping, send, look, collect, tree_of}
 use Rattle.supervisor.specs.Sends.{priority_of, control_of}
-use Rattle.supervisor.specs.Steps.{Moment, job_view, Steps}
+use Rattle.supervisor.specs.Steps.{Answers, Moment, job_view, Steps}
 use Rattle.drive.specs.declared.calls.Call.{Call}
 use Rattle.drive.specs.declared.calls.Call.TheVariants.{Send, Step, Look, Collect}
 use Rattle.drive.specs.declared.calls.Done.{Done}
-use Rattle.drive.specs.Answers.{look_value, collect_value, step_done}
+use Rattle.drive.specs.Answers.{only_answered, step_done}
+
+-- no ticket has a number of more than 32 bits
+abbrev pub known : ℕ → Result ℕ Refusal
+known ticket = if nat_lt ticket (2 ^ 32) then Ok ticket else Err Unknown
+
+-- the look at a ticket, if it is known
+abbrev pub looked : Result ℕ Refusal → JobView → Result ℕ Refusal
+looked (Ok ticket) v = result_map_both from_bool (λ refusal. refusal) (look ticket v)
+looked (Err refusal) v = Err refusal
+
+-- its collect; one that is granted answers 0
+abbrev pub with_zero : JobView × Result ⊤ Refusal → JobView × Result ℕ Refusal
+with_zero x = (x.0, result_map_both (λ _. 0) (λ refusal. refusal) x.1)
+
+abbrev pub collected : Result ℕ Refusal → JobView → JobView × Result ℕ Refusal
+collected (Ok ticket) v = with_zero (collect ticket v)
+collected (Err refusal) v = (v, Err refusal)
 
 module _ {H T : Type 0} (by_host : Host.Ghosts H) (by_terminal : Terminal.Ghosts T) where
-  -- a call that asks nothing outside: the job and the answer are those of f; where it is refused nothing changed
+  -- a call that asks nothing outside: the job answers it as f
   pub record Quiet (f : JobView → JobView × Result ℕ Refusal) (a : Moment H T) (d : Done) (b : Moment H T) : Type 0 where
-    pub result : (job_view b.job, d.answer) ≡ f (job_view a.job)
-    pub refused : OnErr d.answer (b.job ≡ a.job)
+    pub answers : Answers f a.job d.answer b.job
+    pub does : d ≡ only_answered d.answer
     pub host : b.host ≡ a.host
     pub terminal : b.terminal ≡ a.terminal
     pub sheet : b.sheet ≡ a.sheet
-    pub tried : d.tally.tried ≡ 0
-    pub ordered : d.tally.ordered ≡ 0
 
   -- a step, by its own contract
   pub record Moved (tree : ℕ → JobView → Interaction Stepping) (time : ℕ) (a : Moment H T) (d : Done) (b : Moment H T) : Type 0 where
@@ -34,5 +52,5 @@ module _ {H T : Type 0} (by_host : Host.Ghosts H) (by_terminal : Terminal.Ghosts
   abbrev pub Makes : Call → Moment H T → Done → Moment H T → Type 0
   Makes (Send s) a d b = Quiet (send (priority_of s) (control_of s)) a d b
   Makes (Step kind time) a d b = Moved (tree_of kind) time a d b
-  Makes (Look ticket) a d b = Quiet (λ v. (v, look_value (look ticket v))) a d b
-  Makes (Collect ticket) a d b = Quiet (λ v. ((collect ticket v).0, collect_value (collect ticket v).1)) a d b
+  Makes (Look ticket) a d b = (d ≡ only_answered (looked (known ticket) (job_view a.job))) × (b ≡ a)
+  Makes (Collect ticket) a d b = Quiet (collected (known ticket)) a d b

@@ -34,7 +34,7 @@ ordered_in ts = sum_by (λ t. t.did.tally.ordered) ts
 -- The calls were made one after the other from the moment a to the moment b: their answers stand in order at the front of the
 -- slice of answers, which behind them is what it was; the tally adds up what they did; the host's count of spawns grew by exactly
 -- the starts tried.
-pub record Ran {H T : Type 0} (by_host : Host.Ghosts H) (by_terminal : Terminal.Ghosts T) (calls : List Call) (a : Moment H T) (xs : List (Result ℕ Refusal)) (tally : Tally) (b : Moment H T) (ys : List (Result ℕ Refusal)) : Type 0 where
+pub record Completes {H T : Type 0} (by_host : Host.Ghosts H) (by_terminal : Terminal.Ghosts T) (calls : List Call) (a : Moment H T) (xs : List (Result ℕ Refusal)) (tally : Tally) (b : Moment H T) (ys : List (Result ℕ Refusal)) : Type 0 where
   pub turns : List (Turn (Moment H T))
   pub linked : Linked (Makes by_host by_terminal) calls a turns b
   pub answers : ys ≡ answers_of turns ++ drop (length calls) xs
@@ -45,4 +45,4 @@ pub record Ran {H T : Type 0} (by_host : Host.Ghosts H) (by_terminal : Terminal.
 -- a run is refused, and changes nothing, where there are fewer answers than calls
 abbrev pub Drives : {H T : Type 0} (by_host : Host.Ghosts H) (by_terminal : Terminal.Ghosts T) → List Call → Moment H T → List (Result ℕ Refusal) → Result Tally Refusal → Moment H T → List (Result ℕ Refusal) → Type 0
 Drives by_host by_terminal calls a xs (Err r) b ys = (length xs < length calls) × (r ≡ Refusals.Sheet) × (b ≡ a) × (ys ≡ xs)
-Drives by_host by_terminal calls a xs (Ok tally) b ys = (length calls ≤ length xs) × Ran by_host by_terminal calls a xs tally b ys
+Drives by_host by_terminal calls a xs (Ok tally) b ys = (length calls ≤ length xs) × Completes by_host by_terminal calls a xs tally b ys

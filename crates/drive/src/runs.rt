@@ -1,6 +1,7 @@
 // A run of calls on a job, a host and a terminal, with one sheet.
 ghost use Rattle.std.specs.Prelude.{◌≡◌, ◌≤◌, length, take, IfOk};
-ghost use Rattle.supervisor.specs.Steps.{moment};
+ghost use Rattle.supervisor.specs.Steps as Steps;
+ghost use Rattle.supervisor.specs.Steps.{job_view, moment};
 ghost use Rattle.drive.specs.Answers as Answers;
 ghost use Rattle.drive.specs.Calls as Calls;
 ghost use Rattle.drive.specs.Runs as Runs;
@@ -36,6 +37,7 @@ fn stepped(answer: Result<Stepped, Refusal>, sheet: &[Record]) -> Done
             };
             Done {
                 answer: Ok(u32::from(u8::from(step.progress))),
+                records: step.records,
                 tally,
             }
         }
@@ -43,8 +45,28 @@ fn stepped(answer: Result<Stepped, Refusal>, sheet: &[Record]) -> Done
     }
 }
 
+// No ticket has a number of more than 32 bits.
+fn known(ticket: u64) -> Result<u32, Refusal>
+    ensures { result ≡ Calls.known ticket }
+{
+    u32::try_from(ticket).map_err(|_| Refusal::Unknown)
+}
+
+fn look(job: &Job, ticket: u64) -> Result<u32, Refusal>
+    ensures { result ≡ Calls.looked (Calls.known ticket) (job_view job.now) }
+{
+    Ok(u32::from(job.look(known(ticket)?)?))
+}
+
+fn collect(job: &mut Job, ticket: u64) -> Result<u32, Refusal>
+    ensures { Steps.Answers (Calls.collected (Calls.known ticket)) job.old result job.new }
+{
+    job.collect(known(ticket)?)?;
+    Ok(0)
+}
+
 // Makes one call, which is data of the caller's, and so no closure. What it is lent comes one by one, as a step takes it.
-fn make<H: Host, T: Terminal>(
+pub fn make<H: Host, T: Terminal>(
     job: &mut Job,
     host: &mut H,
     terminal: &mut T,
@@ -59,8 +81,8 @@ fn make<H: Host, T: Terminal>(
             let answer = job.step(kind, host, terminal, sheet, time);
             stepped(answer, sheet)
         }
-        Call::Look { ticket } => job.look(ticket).map(u32::from).into(),
-        Call::Collect { ticket } => job.collect(ticket).map(|()| 0).into(),
+        Call::Look { ticket } => look(job, ticket).into(),
+        Call::Collect { ticket } => collect(job, ticket).into(),
     }
 }
 
@@ -78,10 +100,7 @@ pub fn drive<H: Host, T: Terminal>(
     if answers.len() < calls.len() {
         return Err(Refusal::Sheet);
     }
-    let mut tally = Tally {
-        tried: 0,
-        ordered: 0,
-    };
+    let mut tally = Tally::default();
     // By index: of a slice whose elements were lent in a `zip`, a proof knows only the length.
     for (i, call) in calls.iter().enumerate() {
         let done = make(job, host, terminal, sheet, *call);

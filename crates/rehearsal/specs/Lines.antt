@@ -2,6 +2,8 @@
 use Rattle.std.specs.Prelude.{ℕ, Bool, if◌then◌else◌, ◌&&◌, List, [], ◌∷◌, Some, None, codes, Option, ◌==◌, nat_le}
 use Rattle.std.specs.Option.{option_and_then, option_map}
 use Rattle.std.specs.Str.{bytes_eq}
+use Rattle.drive.specs.declared.calls.Call.{Call}
+use Rattle.drive.specs.declared.calls.Call as Calls
 use Rattle.supervisor.specs.declared.sends.Send.{Send}
 use Rattle.supervisor.specs.declared.sends.Send as Sends
 use Rattle.supervisor.specs.declared.answers.StepKind.{StepKind}
@@ -10,13 +12,17 @@ use Rattle.rehearsal.specs.declared.line.Line.{Line}
 use Rattle.rehearsal.specs.declared.line.Line as Lines
 use Rattle.rehearsal.specs.Numbers.{number_of, numbers_of}
 
+-- the letter of a call
+abbrev pub call_letter : Call → ℕ
+call_letter (Calls.TheVariants.Send send) = 99
+call_letter (Calls.TheVariants.Step kind time) = 115
+call_letter (Calls.TheVariants.Look ticket) = 108
+call_letter (Calls.TheVariants.Collect ticket) = 103
+
 -- the letter that a line begins with
 abbrev pub letter_of : Line → ℕ
 letter_of (Lines.TheVariants.Make options mask) = 109
-letter_of (Lines.TheVariants.Send send) = 99
-letter_of (Lines.TheVariants.Step kind time) = 115
-letter_of (Lines.TheVariants.Look ticket) = 108
-letter_of (Lines.TheVariants.Collect ticket) = 103
+letter_of (Lines.TheVariants.Call call) = call_letter call
 letter_of (Lines.TheVariants.Exit child code) = 119
 letter_of (Lines.TheVariants.Stop child) = 119
 
@@ -39,9 +45,9 @@ abbrev pub make_line : ℕ × ℕ → Line
 make_line p = Lines.TheVariants.Make p.0 p.1
 
 -- c: a word, which is no number, that is the name of a send
-abbrev pub send_line : Option ℕ → Option Send → Option Line
-send_line (Some n) send = None
-send_line None send = option_map Lines.TheVariants.Send send
+abbrev pub send_call : Option ℕ → Option Send → Option Call
+send_call (Some n) send = None
+send_call None send = option_map Calls.TheVariants.Send send
 
 -- w x: a child and a code up to 255
 abbrev pub exit_line : ℕ × ℕ → Option Line
@@ -56,8 +62,8 @@ abbrev pub step_kind : ℕ → Option StepKind
 step_kind letter = if letter == 101 then Some Child else (if letter == 99 then Some Control else None)
 
 -- s: e or c, and a time
-abbrev pub step_line : ℕ × List ℕ → Option Line
-step_line p = option_and_then (λ kind. option_map (Lines.TheVariants.Step kind) (number_of p.1)) (step_kind p.0)
+abbrev pub step_call : ℕ × List ℕ → Option Call
+step_call p = option_and_then (λ kind. option_map (Calls.TheVariants.Step kind) (number_of p.1)) (step_kind p.0)
 
 -- w: x or z, and a child with a code or a signal
 abbrev pub event_line : ℕ × List ℕ → Option Line
@@ -66,16 +72,21 @@ event_line p =
     else (if p.0 == 122 then option_and_then stop_line (numbers_of p.1)
     else None)
 
+-- the call that a letter and its fields say
+abbrev pub call_by : ℕ → List ℕ → Option Call
+call_by letter fields =
+    if letter == 99 then send_call (number_of fields) (send_named fields)
+    else (if letter == 115 then option_and_then step_call (lettered fields)
+    else (if letter == 108 then option_map Calls.TheVariants.Look (number_of fields)
+    else (if letter == 103 then option_map Calls.TheVariants.Collect (number_of fields)
+    else None)))
+
 -- what a letter and its fields say; m only where the line is the first
 abbrev pub line_by : Bool → ℕ → List ℕ → Option Line
 line_by first letter fields =
     if letter == 109 then (if first then option_map make_line (numbers_of fields) else None)
-    else (if letter == 99 then send_line (number_of fields) (send_named fields)
-    else (if letter == 115 then option_and_then step_line (lettered fields)
-    else (if letter == 108 then option_map Lines.TheVariants.Look (number_of fields)
-    else (if letter == 103 then option_map Lines.TheVariants.Collect (number_of fields)
     else (if letter == 119 then option_and_then event_line (lettered fields)
-    else None)))))
+    else option_map Lines.TheVariants.Call (call_by letter fields))
 
 -- what a line says; none for a faulty one
 abbrev pub line_of : Bool → List ℕ → Option Line

@@ -6,21 +6,21 @@ use Rattle.host.specs.declared.journal.Record.{Record}
 use Rattle.host.specs.Journal.{call_number, answer_number}
 use Rattle.supervisor.specs.declared.errors.Refusal.{Refusal}
 use Rattle.supervisor.specs.Errors.{refusal_number}
+use Rattle.drive.specs.declared.calls.Done.{Done}
 use Rattle.rehearsal.specs.declared.line.Line.{Line}
-use Rattle.rehearsal.specs.declared.run.Granted.{Granted}
 use Rattle.rehearsal.specs.declared.run.Rehearsal.{Rehearsal}
-use Rattle.rehearsal.specs.declared.script.Fault.{Fault}
-use Rattle.rehearsal.specs.declared.script.Fault as Faults
+use Rattle.rehearsal.specs.declared.script.ScriptFault.{ScriptFault}
+use Rattle.rehearsal.specs.declared.script.ScriptFault as ScriptFaults
 use Rattle.rehearsal.specs.Calls.{IsFresh, Plays}
 use Rattle.rehearsal.specs.Lines.{letter_of}
 
 -- the number of a faulty line; 0 for a script that is too long
-abbrev pub fault_number : Fault → ℕ
-fault_number Faults.TheVariants.TooLong = 0
-fault_number (Faults.TheVariants.Line number) = number
+abbrev pub fault_number : ScriptFault → ℕ
+fault_number ScriptFaults.TheVariants.TooLong = 0
+fault_number (ScriptFaults.TheVariants.Line number) = number
 
 -- the refusal of a faulty line, which is 13, and its number
-abbrev pub fault_text : Fault → List ℕ
+abbrev pub fault_text : ScriptFault → List ℕ
 fault_text fault = decimal 13 ++ (9 ∷ (decimal (fault_number fault) ++ (10 ∷ [])))
 
 -- the number of a line, its letter, refusal and value
@@ -33,17 +33,21 @@ abbrev pub record_text : Record → List ℕ
 record_text r =
     106 ∷ 9 ∷ (decimal (call_number r.call) ++ (9 ∷ (decimal r.child ++ (9 ∷ (decimal r.number ++ (9 ∷ (signed_decimal (answer_number r.answer) ++ (10 ∷ []))))))))
 
--- what a line prints: a refused one has the value 0, a granted one is followed by the records that it wrote
-abbrev pub line_text : ℕ → ℕ → Result Granted Refusal → List Record → List ℕ
-line_text number letter (Err refusal) sheet = answer_text number letter (refusal_number refusal) 0
-line_text number letter (Ok granted) sheet = answer_text number letter 0 granted.value ++ flat_map record_text (take granted.records sheet)
+-- the answer of a line: a refused one has the value 0
+abbrev pub answered_text : ℕ → ℕ → Result ℕ Refusal → List ℕ
+answered_text number letter (Ok value) = answer_text number letter 0 value
+answered_text number letter (Err refusal) = answer_text number letter (refusal_number refusal) 0
+
+-- what a line prints: its answer, and the records that it wrote
+abbrev pub line_text : ℕ → ℕ → Done → List Record → List ℕ
+line_text number letter done sheet = answered_text number letter done.answer ++ flat_map record_text (take done.records sheet)
 
 -- what the lines from number n on print, whose calls are made from r on: each its answer, and then the lines behind it
-abbrev pub Performs : ℕ → List Line → Rehearsal → List ℕ → Type 0
-Performs n [] r text = text ≡ []
-Performs n (line ∷ lines) r text = (answer : Result Granted Refusal) × (next : Rehearsal) × (more : List ℕ) × Plays line r answer next × (text ≡ line_text n (letter_of line) answer next.sheet ++ more) × Performs (n + 1) lines next more
+abbrev pub Prints : ℕ → List Line → Rehearsal → List ℕ → Type 0
+Prints n [] r text = text ≡ []
+Prints n (line ∷ lines) r text = (done : Done) × (next : Rehearsal) × (more : List ℕ) × Plays line r done next × (text ≡ line_text n (letter_of line) done next.sheet ++ more) × Prints (n + 1) lines next more
 
 -- a script with a fault prints it; the others are performed from a fresh job on, with options and mask 0
-abbrev pub Printed : Result (List Line) Fault → List ℕ → Type 0
+abbrev pub Printed : Result (List Line) ScriptFault → List ℕ → Type 0
 Printed (Err fault) text = text ≡ fault_text fault
-Printed (Ok lines) text = (r : Rehearsal) × IsFresh 0 0 r × Performs 1 lines r text
+Printed (Ok lines) text = (r : Rehearsal) × IsFresh 0 0 r × Prints 1 lines r text

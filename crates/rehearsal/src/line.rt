@@ -1,10 +1,11 @@
 // What a line of a script says.
 ghost use Rattle.std.specs.Prelude.{◌≡◌};
 ghost use Rattle.std.specs.Option.{option_and_then, option_map};
-ghost use Rattle.rehearsal.specs.Lines.{event_line, exit_line, letter_of, lettered, line_by, line_of, send_line, send_named, step_kind, step_line, stop_line};
+ghost use Rattle.rehearsal.specs.Lines.{call_by, call_letter, event_line, exit_line, letter_of, lettered, line_by, line_of, send_call, send_named, step_call, step_kind, stop_line};
 ghost use Rattle.rehearsal.specs.Numbers.{number_of, numbers_of};
 
 use crate::token::{number, two_numbers};
+use drive::calls::Call;
 use supervisor::answers::StepKind;
 use supervisor::sends::Send;
 
@@ -16,12 +17,20 @@ const TTOU: u64 = 22;
 #[derive(Clone, Copy)]
 pub enum Line {
     Make { options: u64, mask: u64 },
-    Send(Send),
-    Step { kind: StepKind, time: u64 },
-    Look { ticket: u64 },
-    Collect { ticket: u64 },
+    Call(Call),
     Exit { child: u64, code: u8 },
     Stop { child: u64 },
+}
+
+fn call_letter(call: Call) -> char
+    ensures { result ≡ call_letter call }
+{
+    match call {
+        Call::Send(_) => 'c',
+        Call::Step { .. } => 's',
+        Call::Look { .. } => 'l',
+        Call::Collect { .. } => 'g',
+    }
 }
 
 impl Line {
@@ -31,10 +40,7 @@ impl Line {
     {
         match self {
             Line::Make { .. } => 'm',
-            Line::Send(_) => 'c',
-            Line::Step { .. } => 's',
-            Line::Look { .. } => 'l',
-            Line::Collect { .. } => 'g',
+            Line::Call(call) => call_letter(call),
             Line::Exit { .. } | Line::Stop { .. } => 'w',
         }
     }
@@ -62,10 +68,10 @@ fn lettered(bytes: &[u8]) -> Option<(u8, &[u8])>
 }
 
 // The sends have no arguments, so their fields are one word; the name of a send is never a number.
-fn read_send(fields: &[u8]) -> Option<Line>
-    ensures { result ≡ send_line (number_of fields.now) (send_named fields.now) }
+fn read_send(fields: &[u8]) -> Option<Call>
+    ensures { result ≡ send_call (number_of fields.now) (send_named fields.now) }
 {
-    send_named(fields).map(Line::Send)
+    send_named(fields).map(Call::Send)
 }
 
 fn step_kind(letter: u8) -> Option<StepKind>
@@ -78,11 +84,11 @@ fn step_kind(letter: u8) -> Option<StepKind>
     }
 }
 
-fn read_step(fields: &[u8]) -> Option<Line>
-    ensures { result ≡ option_and_then step_line (lettered fields.now) }
+fn read_step(fields: &[u8]) -> Option<Call>
+    ensures { result ≡ option_and_then step_call (lettered fields.now) }
 {
     let (letter, time) = lettered(fields)?;
-    Some(Line::Step {
+    Some(Call::Step {
         kind: step_kind(letter)?,
         time: number(time)?,
     })
@@ -117,18 +123,26 @@ fn read_event(fields: &[u8]) -> Option<Line>
     }
 }
 
+fn read_call(letter: u8, fields: &[u8]) -> Option<Call>
+    ensures { result ≡ call_by letter fields.now }
+{
+    match letter {
+        b'c' => read_send(fields),
+        b's' => read_step(fields),
+        b'l' => number(fields).map(|ticket| Call::Look { ticket }),
+        b'g' => number(fields).map(|ticket| Call::Collect { ticket }),
+        _ => None,
+    }
+}
+
 // Only the first line of a script makes the job.
 fn read_fields(letter: u8, fields: &[u8], first: bool) -> Option<Line>
     ensures { result ≡ line_by first letter fields.now }
 {
     match letter {
         b'm' if first => two_numbers(fields).map(|(options, mask)| Line::Make { options, mask }),
-        b'c' => read_send(fields),
-        b's' => read_step(fields),
-        b'l' => number(fields).map(|ticket| Line::Look { ticket }),
-        b'g' => number(fields).map(|ticket| Line::Collect { ticket }),
         b'w' => read_event(fields),
-        _ => None,
+        _ => read_call(letter, fields).map(Line::Call),
     }
 }
 

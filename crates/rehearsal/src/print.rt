@@ -3,22 +3,22 @@ ghost use Rattle.std.specs.Prelude.{◌≡◌, ◌++◌, OnOk, Some, string_byte
 ghost use Rattle.std.specs.List.{flat_map};
 ghost use Rattle.rehearsal.specs.Printed.{answer_text, fault_text, line_text, record_text};
 
-use crate::run::Granted;
-use crate::script::Fault;
+use crate::script::ScriptFault;
+use drive::calls::Done;
 use host::journal::Record;
 use std::alloc::AllocError;
 use std::fmt;
 use supervisor::errors::Refusal;
 
 // The number of a faulty line, behind that of the refusal; 0 stands for a script that is too long.
-impl fmt::Display for Fault {
+impl fmt::Display for ScriptFault {
     ghost output = { λ fault. Some (fault_text fault) };
 
     fn fmt<W: fmt::Write>(&self, f: &mut fmt::Formatter<W>) -> fmt::Result {
         let refusal = u8::from(Refusal::Line);
         let number = match *self {
-            Fault::TooLong => 0,
-            Fault::Line(number) => number,
+            ScriptFault::TooLong => 0,
+            ScriptFault::Line(number) => number,
         };
         writeln!(f, "{refusal}\t{number}")
     }
@@ -77,26 +77,26 @@ fn write_records(text: &mut String, records: &[Record]) -> Result<(), AllocError
     Ok(())
 }
 
-// Adds what the line of this number prints: its letter, refusal and value, and the records that its step wrote on the sheet.
+// Adds what the line of this number prints: its letter, refusal and value, and the records that it wrote on the sheet.
 pub(crate) fn write_line(
     text: &mut String,
     number: usize,
     letter: char,
-    answer: Result<Granted, Refusal>,
+    done: Done,
     sheet: &[Record],
 ) -> Result<(), AllocError>
-    ensures { OnOk result (string_bytes text.new ≡ string_bytes text.old ++ line_text number letter answer sheet.now) }
+    ensures { OnOk result (string_bytes text.new ≡ string_bytes text.old ++ line_text number letter done sheet.now) }
 {
-    let (refusal, granted) = match answer {
-        Ok(granted) => (0, granted),
-        Err(refusal) => (u8::from(refusal), Granted::default()),
+    let (refusal, value) = match done.answer {
+        Ok(value) => (0, value),
+        Err(refusal) => (u8::from(refusal), 0),
     };
     let answer = AnswerLine {
         number,
         letter,
         refusal,
-        value: granted.value,
+        value,
     };
     write!(text, "{answer}")?;
-    write_records(text, &sheet[..granted.records.min(sheet.len())])
+    write_records(text, &sheet[..done.records.min(sheet.len())])
 }

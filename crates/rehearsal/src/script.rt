@@ -5,11 +5,12 @@ ghost use Rattle.rehearsal.specs.Script.{Explains, script_of};
 
 use crate::MOST_BYTES;
 use crate::line::{Line, parse};
+use crate::parts::cut;
 use std::alloc::{AllocError, AllocFailed, Global};
 
 // What is wrong with a script: it is too long, or the line of this number is faulty.
 #[derive(Clone, Copy, Debug, PartialEq, Eq)]
-pub enum Fault {
+pub enum ScriptFault {
     TooLong,
     Line(usize),
 }
@@ -17,14 +18,14 @@ pub enum Fault {
 // Why a script gives no lines.
 #[derive(Clone, Copy, Debug, PartialEq, Eq)]
 pub enum ReadError {
-    Faulty(Fault),
+    Faulty(ScriptFault),
     Memory,
 }
 
-impl From<Fault> for ReadError {
+impl From<ScriptFault> for ReadError {
     ghost from_gives = { λ fault r. r ≡ Faulty fault };
 
-    fn from(fault: Fault) -> ReadError {
+    fn from(fault: ScriptFault) -> ReadError {
         ReadError::Faulty(fault)
     }
 }
@@ -50,14 +51,20 @@ pub(crate) fn read(heap: Global, script: &[u8]) -> Result<Vec<Line>, ReadError>
     ensures { MatchResult result (λ lines. script_of script.now ≡ Ok lines.items) (Explains (script_of script.now)) }
 {
     if script.len() > MOST_BYTES {
-        return Err(Fault::TooLong.into());
+        return Err(ScriptFault::TooLong.into());
     }
     let mut lines = Vec::new(heap);
-    for (i, piece) in script.split_inclusive(|byte| *byte == b'\n').enumerate() {
-        let number = i + 1;
-        let text = piece.strip_suffix(b"\n").ok_or(Fault::Line(number))?;
-        let line = parse(text, number == 1).ok_or(Fault::Line(number))?;
+    let mut rest = script;
+    while let Some((text, behind)) = cut(rest, b'\n') {
+        let number = lines.len() + 1;
+        let Some(line) = parse(text, number == 1) else {
+            return Err(ScriptFault::Line(number).into());
+        };
         lines.push(line)?;
+        rest = behind;
+    }
+    if !rest.is_empty() {
+        return Err(ScriptFault::Line(lines.len() + 1).into());
     }
     Ok(lines)
 }

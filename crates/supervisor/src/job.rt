@@ -6,6 +6,8 @@ ghost use Rattle.task.specs.View.{task_view};
 ghost use Rattle.supervisor.specs.View.{mailbox_view};
 
 use crate::mailbox::Mailbox;
+// A step needs a sheet of so many places.
+pub use task::conduct::LEAST_PLACES;
 use task::task::Task;
 
 // One command with its task and its mailbox. A closed job does nothing any more.

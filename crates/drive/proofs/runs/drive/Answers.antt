@@ -21,7 +21,7 @@ pub overflow_add-tally-in-loop-i : goal.overflow_add-tally-in-loop-i
 overflow_add-tally-in-loop-i g c = omega (arith, (next g (goal.at.overflow_add-tally-in-loop-i g c).After-make-done).ordered_few)
 
 pub loop-i-init : goal.loop-i-init
-loop-i-init g c = at_first g.H.Host g.T.Terminal c.args.calls.now _ c.args.answers.now
+loop-i-init g c = rw (c.default-tally.ensures.0, c.default-tally.ensures.1) (at_first g.H.Host g.T.Terminal c.args.calls.now _ c.args.answers.now)
 
 pub loop-i-preserved : goal.loop-i-preserved
 loop-i-preserved g c = next g (goal.at.loop-i-preserved g c).After-make-done

@@ -1,13 +1,11 @@
--- What was read, before what is left, is the script.
-use Rattle.std.proofs.Common.{◌≡◌, ◌+◌}
-use Rattle.std.specs.Iterator.Adapters.{enumerate_count, enumerate_source}
-use Rattle.std.specs.Slice.Iter.{split_inclusive_rest}
+-- What the script says is what was read, before what is left.
+use Rattle.std.proofs.Common.{◌≡◌, ◌+◌, length, vec_len}
+use Rattle.rehearsal.specs.Script.{script_of}
 use Rattle.rehearsal.proofs.Reading.{after_lines, said}
 use Rattle.rehearsal.proofs.script.read.Given as goal
 
-abbrev pub invariant-loop-i : goal.invariant-loop-i
-invariant-loop-i l = record {
-  can_next : (goal.iterator-loop-i).can_next l.i-iterator;
-  is_finite : (goal.iterator-loop-i).is_finite l.i-iterator;
-  read : after_lines l.lines.items (said (enumerate_count l.i-iterator + 1) (split_inclusive_rest (enumerate_source l.i-iterator))) ≡ said 1 l.script;
-}
+abbrev pub invariant-loop-text : goal.invariant-loop-text
+invariant-loop-text l = script_of l.script ≡ after_lines l.lines.items (said (vec_len l.lines + 1) l.rest)
+
+abbrev pub decreases-loop-text : goal.decreases-loop-text
+decreases-loop-text l = length l.rest

@@ -1,30 +1,13 @@
 -- A line is performed before the lines behind it.
-use Rattle.std.proofs.Common.{ℕ, ◌+◌, ◌<◌, ◌++◌, List, [], length, get_or, drop, Result, string_bytes, sym, refl, ap, ◌∙◌, subst, append_assoc, append-nil}
-use Rattle.std.proofs.lemmas.List.{at_drop_more, at_drop_all}
-use Rattle.supervisor.specs.declared.errors.Refusal.{Refusal}
-use Rattle.rehearsal.specs.declared.line.Line.{Line}
-use Rattle.rehearsal.specs.declared.run.Granted.{Granted}
-use Rattle.rehearsal.specs.declared.run.Rehearsal.{Rehearsal}
-use Rattle.rehearsal.specs.Calls.{Plays}
-use Rattle.rehearsal.specs.Lines.{letter_of}
-use Rattle.rehearsal.specs.Printed.{Performs, line_text}
+use Rattle.std.proofs.Common.{[], refl, append_assoc, append-nil}
+use Rattle.std.proofs.lemmas.List.{drop_more, drop_all}
+use Rattle.rehearsal.specs.declared.line.Line.TheVariants.{Make}
 use Rattle.rehearsal.proofs.run.Rehearsal.perform.Goals as goal
-
-next_line : (lines : List Line) (i : ℕ) (d : Line) (r next : Rehearsal) (answer : Result Granted Refusal) (more : List ℕ) → i < length lines → Plays (get_or lines i d) r answer next → Performs (i + 1 + 1) (drop (i + 1) lines) next more → Performs (i + 1) (drop i lines) r (line_text (i + 1) (letter_of (get_or lines i d)) answer next.sheet ++ more)
-next_line lines i d r next answer more l plays rest =
-    subst (λ ls. Performs (i + 1) ls r (line_text (i + 1) (letter_of (get_or lines i d)) answer next.sheet ++ more)) (sym (at_drop_more (λ ls. ls) lines i d l)) (answer, next, more, plays, refl, rest)
 
 pub loop-i-preserved : goal.loop-i-preserved
 loop-i-preserved c = λ more rest.
-    let lines = c.args.lines.now in
-    let i = c.loop-i.i in
-    let printed = ap (λ letter. string_bytes c.loop-i.text ++ line_text (i + 1) letter c.call-answer.result c.call-answer.new.self.sheet) (sym c.letter.ensures) ∙ sym c.in_ok-write_line.ensures in
-    subst (Performs 1 lines c.args.self.now) (sym (append_assoc (string_bytes c.loop-i.text) _ more) ∙ ap (λ t. t ++ more) printed)
-    (c.loop-i.invariant _ (next_line lines i _ c.loop-i.self c.call-answer.new.self c.call-answer.result more c.loop-i-test.true c.call-answer.ensures rest))
+    rw (c.in_ok-write_line.ensures, c.letter.ensures, append_assoc)
+    (c.loop-i.invariant _ (rw (drop_more c.args.lines.now c.loop-i.i (Make 0 0) c.loop-i-test.true) (c.play-done.result, c.play-done.new.self, more, c.play-done.ensures, refl, rest)))
 
 pub returns : goal.returns
-returns c =
-    let lines = c.args.lines.now in
-    let i = c.loop-i.i in
-    subst (Performs 1 lines c.args.self.now) (append-nil (string_bytes c.loop-i.text))
-    (c.loop-i.invariant [] (subst (λ ls. Performs (i + 1) ls c.loop-i.self []) (sym (at_drop_all (λ ls. ls) lines i c.loop-i-test.false)) refl))
+returns c = rw append-nil at (c.loop-i.invariant [] (rw (drop_all c.loop-i.i c.args.lines.now c.loop-i-test.false) refl))

@@ -1,4 +1,4 @@
--- A send leaves the mailbox in order.
+-- A send leaves the mailbox in order, and a refused one the job as it was.
 use Rattle.std.proofs.Common.{◌≡◌, ℕ, ◌≤◌, ◌^◌, false, [], Ok, Err, Result, ap, arith}
 use Rattle.std.specs.Result.{OnErr}
 use Rattle.std.proofs.Props.{props}
