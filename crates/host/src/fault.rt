@@ -18,4 +18,6 @@ impl Fault {
     pub const NO_ROOM: Fault = Fault { code: 11 };
     // No such signal, or another bad argument (EINVAL).
     pub const INVALID: Fault = Fault { code: 22 };
+    // No answer is left (ENODATA).
+    pub const NO_ANSWER: Fault = Fault { code: 61 };
 }

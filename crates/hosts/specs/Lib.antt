@@ -1,6 +1,9 @@
--- The definitions of the simulated host.
+-- The definitions of the simulated host and of the prepared host.
 pub mod Children
 pub mod Signals
 pub mod Roster
 pub mod Simulated
 pub mod Book
+pub mod Numbers
+pub mod Prepared
+pub mod PreparedBook

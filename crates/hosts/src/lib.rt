@@ -2,6 +2,8 @@
 #![tactic(auto)]
 
 mod children;
+mod numbers;
+pub mod prepared;
 mod roster;
 mod signals;
 pub mod simulated;
