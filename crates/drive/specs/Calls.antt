@@ -9,7 +9,6 @@ use Rattle.supervisor.specs.declared.errors.Refusal.{Refusal}
 use Rattle.supervisor.specs.declared.errors.Refusal.TheVariants.{Unknown}
 use Rattle.supervisor.specs.declared.answers.Stepped.{Stepped}
 use Rattle.supervisor.specs.Job.{JobView, Stepping, send, look, collect, tree_of}
-use Rattle.supervisor.specs.Sends.{priority_of, control_of}
 use Rattle.supervisor.specs.Steps.{Answers, Moment, job_view, Steps}
 use Rattle.drive.specs.declared.calls.Call.{Call}
 use Rattle.drive.specs.declared.calls.Call.TheVariants.{Send, Step, Look, Collect}
@@ -50,7 +49,7 @@ module _ {H T : Type 0} (by_host : Host.Ghosts H) (by_terminal : Terminal.Ghosts
 
   -- the call c leads from the moment a to the moment b and does d
   abbrev pub Makes : Call → Moment H T → Done → Moment H T → Type 0
-  Makes (Send s) a d b = Quiet (send (priority_of s) (control_of s)) a d b
+  Makes (Send s) a d b = Quiet (send s) a d b
   Makes (Step kind time) a d b = Moved (tree_of kind) time a d b
   Makes (Look ticket) a d b = (d ≡ only_answered (looked (known ticket) (job_view a.job))) × (b ≡ a)
   Makes (Collect ticket) a d b = Quiet (collected (known ticket)) a d b
