@@ -1,4 +1,3 @@
--- What is shown of the children of the simulated host, of signal 0, and of the answers that the prepared host reads.
+-- What is shown of the children of the simulated host, and of signal 0.
 pub mod Places
 pub mod Null
-pub mod Written
