@@ -52,24 +52,14 @@ impl Queues {
     }
 }
 
-const BLANK: ControlMessage = ControlMessage {
-    control: Control::Start,
-    ticket: 0,
-};
-
 impl Mailbox {
     // A mailbox with no messages and no tickets.
     pub(crate) fn new() -> Self
         ensures { mailbox_view result ≡ Mail.empty }
     {
-        let queues = Queues {
-            normal: Queue::new(BLANK),
-            high: Queue::new(BLANK),
-            urgent: Queue::new(BLANK),
-        };
         Mailbox {
-            queues,
-            ending: Queue::new(0),
+            queues: Queues::default(),
+            ending: Queue::default(),
             tickets: Tickets::new(),
         }
     }

@@ -1,7 +1,7 @@
 // The mailbox of a job: its queues, the tickets that wait for the child's end, and the ticket table.
 use ring::queue::Queue;
 use task::messages::ControlMessage;
-use tickets::flag::Tickets;
+use tickets::flag::{PLACES, Tickets};
 
 // Which queue a control is sent to.
 #[derive(Clone, Copy)]
@@ -11,7 +11,7 @@ pub enum Priority {
     Urgent,
 }
 
-#[derive(Clone, Copy)]
+#[derive(Clone, Copy, Default)]
 pub struct Queues {
     pub normal: Queue<ControlMessage, 128>,
     pub high: Queue<ControlMessage, 64>,
@@ -22,6 +22,6 @@ pub struct Queues {
 pub struct Mailbox {
     pub queues: Queues,
     // The ending list: the tickets that are raised when the child ends.
-    pub ending: Queue<u32, 256>,
+    pub ending: Queue<u32, PLACES>,
     pub tickets: Tickets,
 }

@@ -3,8 +3,10 @@ ghost use Rattle.std.specs.Prelude.{◌≡◌};
 ghost use Rattle.task.specs.Messages.{orders};
 
 // What a job can be told to do.
-#[derive(Clone, Copy)]
+// The default fills slots of a queue that no message has.
+#[derive(Clone, Copy, Default)]
 pub enum Control {
+    #[default]
     Start,
     Stop,
     NextEnding,
@@ -23,7 +25,7 @@ impl Control {
 }
 
 // A control and the ticket that is raised when it is done.
-#[derive(Clone, Copy)]
+#[derive(Clone, Copy, Default)]
 pub struct ControlMessage {
     pub control: Control,
     pub ticket: u32,

@@ -65,7 +65,7 @@ impl Job {
             time,
         ) else {
             // `may_step` has seen to the sheet, and `control` checks it again, since it takes every sheet.
-            unreachable()
+            unreachable!()
         };
         self.mailbox.settle(outcome, message.ticket);
         Ok(Stepped {
@@ -90,7 +90,7 @@ impl Job {
         let Some((outcome, records)) = conduct::poll(&mut self.task, host, terminal, sheet, time)
         else {
             // As in a control step.
-            unreachable()
+            unreachable!()
         };
         self.mailbox.after_poll(outcome);
         Ok(Stepped {
