@@ -45,11 +45,11 @@ fn stepped(answer: Result<Stepped, Refusal>, sheet: &[Record]) -> Done
     }
 }
 
-// No ticket has a number of more than 32 bits.
-fn known(ticket: u64) -> Result<u32, Refusal>
-    ensures { result ≡ Calls.known ticket }
+// No ticket and no child has a number of more than 32 bits.
+pub fn known(number: u64) -> Result<u32, Refusal>
+    ensures { result ≡ Calls.known number }
 {
-    u32::try_from(ticket).map_err(|_| Refusal::Unknown)
+    u32::try_from(number).map_err(|_| Refusal::Unknown)
 }
 
 fn look(job: &Job, ticket: u64) -> Result<u32, Refusal>

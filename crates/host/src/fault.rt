@@ -1,7 +1,7 @@
 // The fault that answers a call.
 
-// The code of an error, as Linux numbers them. A host may answer any code from 1 to 4095, so this is no enum; that range is no
-// invariant, since what takes a fault takes each number, and an answer outside is what the book of hosts rules out.
+// The code of an error, as Linux numbers them. A host may answer any code from 1 to 4095, so this is no enum. That range is no
+// invariant: what takes a fault takes each number, and the book of hosts says which of them fit an answer.
 #[derive(Clone, Copy, Debug, PartialEq, Eq)]
 pub struct Fault {
     pub code: u16,

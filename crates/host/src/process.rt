@@ -24,7 +24,7 @@ pub trait Host {
     fn is_full(&self) -> bool
         ensures { result ≡ nat_le MOST (length (book self.now).roster) };
 
-    // The options may be a hook's, and so they come beside the program and not as a `Command`.
+    // The options may be a hook's, so they come beside the program: a `Command` is what a job manages.
     fn spawn(
         &mut self,
         program: u8,
@@ -52,7 +52,8 @@ pub trait Host {
     fn let_go(&mut self, child: u32)
         ensures { did self.old (Calls.let_go child) tt self.new };
 
-    // A hook and a routine are told the state and the previous one, as two arguments: a struct for these two were no plainer.
+    // A hook and a routine are told the state and the previous one, as two arguments: a struct of them would be
+    // made in one place and taken apart in each host.
     fn hook(
         &mut self,
         number: u8,

@@ -35,7 +35,7 @@ pub enum Life {
 }
 
 impl End {
-    // The same end, of which a proof then knows that a process may have it.
+    // The same end, of which a proof then knows that a process may have it: of a field of an enum it doesn't know the invariant.
     fn known(self) -> End
         ensures is { result ≡ self }
         ensures fit { is_fit (Life.Ended result) ≡ true }

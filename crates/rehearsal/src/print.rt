@@ -24,29 +24,6 @@ impl fmt::Display for ScriptFault {
     }
 }
 
-// The answer of a line.
-#[derive(Clone, Copy)]
-struct AnswerLine {
-    number: usize,
-    letter: char,
-    refusal: u8,
-    value: u32,
-}
-
-impl fmt::Display for AnswerLine {
-    ghost output = { λ line. Some (answer_text line.number line.letter line.refusal line.value) };
-
-    fn fmt<W: fmt::Write>(&self, f: &mut fmt::Formatter<W>) -> fmt::Result {
-        let AnswerLine {
-            number,
-            letter,
-            refusal,
-            value,
-        } = *self;
-        writeln!(f, "{number}\t{letter}\t{refusal}\t{value}")
-    }
-}
-
 // A record of a step.
 #[derive(Clone, Copy)]
 struct RecordLine<'a>(&'a Record);
@@ -91,12 +68,6 @@ pub(crate) fn write_line(
         Ok(value) => (0, value),
         Err(refusal) => (u8::from(refusal), 0),
     };
-    let answer = AnswerLine {
-        number,
-        letter,
-        refusal,
-        value,
-    };
-    write!(text, "{answer}")?;
+    writeln!(text, "{number}\t{letter}\t{refusal}\t{value}")?;
     write_records(text, &sheet[..done.records.min(sheet.len())])
 }

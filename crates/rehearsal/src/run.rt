@@ -11,6 +11,7 @@ use crate::line::Line;
 use crate::print::write_line;
 use drive::calls::Done;
 use drive::runs;
+use drive::runs::known;
 use foreground::absent::AbsentTerminal;
 use host::journal::Record;
 use hosts::simulated::SimulatedHost;
@@ -26,13 +27,6 @@ pub struct Rehearsal {
     host: SimulatedHost,
     terminal: AbsentTerminal,
     sheet: [Record; LEAST_PLACES],
-}
-
-// No child has a number of more than 32 bits.
-fn known(number: u64) -> Result<u32, Refusal>
-    ensures { result ≡ (if nat_lt number (2 ^ 32) then Ok number else Err Unknown) }
-{
-    u32::try_from(number).map_err(|_| Refusal::Unknown)
 }
 
 // Where nothing living has that number, the child is unknown.

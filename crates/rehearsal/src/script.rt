@@ -55,6 +55,7 @@ pub(crate) fn read(heap: Global, script: &[u8]) -> Result<Vec<Line>, ReadError>
     }
     let mut lines = Vec::new(heap);
     let mut rest = script;
+    // By `cut` and not by `split_inclusive`: what it leaves is the line that has no end, while of a piece that would have to be told.
     while let Some((text, behind)) = cut(rest, b'\n') {
         let number = lines.len() + 1;
         let Some(line) = parse(text, number == 1) else {

@@ -10,7 +10,7 @@ use crate::mailbox::Mailbox;
 pub use task::conduct::LEAST_PLACES;
 use task::task::Task;
 
-// One command with its task and its mailbox. A closed job does nothing any more.
+// One command with its task and its mailbox. A closed job takes no step any more.
 #[derive(Drop)]
 pub struct Job {
     closed: bool,

@@ -14,14 +14,14 @@ use crate::timer::Timer;
 use ring::queue::Queue;
 use task::messages::{Control, ControlMessage, GraceEnd};
 use task::task::{Outcome, PollOutcome};
-use tickets::flag::Tickets;
+use tickets::flag::{PLACES, Tickets};
 
 #[derive(Clone, Copy)]
 pub struct Mailbox {
     pub queues: Queues,
     pub timer: Option<Timer>,
     // The ending list: the tickets that are raised when the child ends.
-    pub ending: Queue<u32, 256>,
+    pub ending: Queue<u32, PLACES>,
     pub tickets: Tickets,
 }
 
@@ -57,9 +57,9 @@ impl Mailbox {
         ensures { mailbox_view result ≡ Mail.empty }
     {
         Mailbox {
-            queues: Queues::new(),
+            queues: Queues::default(),
             timer: None,
-            ending: Queue::new(0),
+            ending: Queue::default(),
             tickets: Tickets::new(),
         }
     }

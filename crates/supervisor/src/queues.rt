@@ -5,7 +5,7 @@ ghost use Rattle.supervisor.specs.Mailbox as Mail;
 ghost use Rattle.supervisor.specs.View.{queues_view};
 
 use ring::queue::Queue;
-use task::messages::{Control, ControlMessage};
+use task::messages::ControlMessage;
 
 // Which queue a control is sent to.
 #[derive(Clone, Copy)]
@@ -15,30 +15,15 @@ pub enum Priority {
     Urgent,
 }
 
-#[derive(Clone, Copy)]
+#[derive(Clone, Copy, Default)]
 pub struct Queues {
     pub normal: Queue<ControlMessage, 128>,
     pub high: Queue<ControlMessage, 64>,
     pub urgent: Queue<ControlMessage, 16>,
 }
 
-const BLANK: ControlMessage = ControlMessage {
-    control: Control::Start,
-    ticket: 0,
-};
-
 // The queues differ in type, by their sizes, so each is an arm of its own.
 impl Queues {
-    pub(crate) fn new() -> Self
-        ensures { queues_view result ≡ (Mail.empty).queues }
-    {
-        Queues {
-            normal: Queue::new(BLANK),
-            high: Queue::new(BLANK),
-            urgent: Queue::new(BLANK),
-        }
-    }
-
     // Whether a queue can take n messages more.
     pub(crate) fn has_room(&self, priority: Priority, n: usize) -> bool
         ensures { result ≡ Mail.queue_room priority n (queues_view self.now) }

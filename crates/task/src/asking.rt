@@ -1,5 +1,5 @@
 // One method for each call of a step: it asks, and records the call with its answer. A generic one would take what is asked and
-// what is recorded as closures, which its contract had to tie to the call, and would save one line of each method's three.
+// what is recorded as closures, which its contract had to tie to the call, and would be no shorter where it is called.
 ghost use Rattle.host.specs.Calls as Calls;
 ghost use Rattle.host.specs.Journal as Journal;
 ghost use Rattle.task.specs.Performs.{Asks, Records, Room};
@@ -12,7 +12,7 @@ use host::process::Host;
 use host::state::{CommandState, ProcessEnd};
 use host::terminal::Terminal;
 
-impl<H: Host, T: Terminal> Step<'_, '_, '_, '_, H, T> {
+impl<H: Host, T: Terminal> Step<'_, H, T> {
     // Records a call and its answer in the next place of the sheet.
     fn record(&mut self, call: CallKind, child: u32, number: u32, answer: Answer)
         requires { Room 1 self.old }
@@ -70,8 +70,7 @@ impl<H: Host, T: Terminal> Step<'_, '_, '_, '_, H, T> {
         ensures { Asks H.Host T.Terminal (Calls.to_host (Calls.kill child)) self.old result self.new }
     {
         let reply = self.host.kill(child);
-        let answer = reply.map_or_else(Answer::Fault, |()| Answer::Nothing);
-        self.record(CallKind::Kill, child, 0, answer);
+        self.record(CallKind::Kill, child, 0, reply.into());
         reply
     }
 
@@ -80,8 +79,7 @@ impl<H: Host, T: Terminal> Step<'_, '_, '_, '_, H, T> {
         ensures { Asks H.Host T.Terminal (Calls.to_host (Calls.signal child signal)) self.old result self.new }
     {
         let reply = self.host.signal(child, signal);
-        let answer = reply.map_or_else(Answer::Fault, |()| Answer::Nothing);
-        self.record(CallKind::Signal, child, u32::from(signal), answer);
+        self.record(CallKind::Signal, child, u32::from(signal), reply.into());
         reply
     }
 
@@ -90,8 +88,7 @@ impl<H: Host, T: Terminal> Step<'_, '_, '_, '_, H, T> {
         ensures { Asks H.Host T.Terminal (Calls.to_host (Calls.cont child)) self.old result self.new }
     {
         let reply = self.host.cont(child);
-        let answer = reply.map_or_else(Answer::Fault, |()| Answer::Nothing);
-        self.record(CallKind::Cont, child, 0, answer);
+        self.record(CallKind::Cont, child, 0, reply.into());
         reply
     }
 
@@ -128,8 +125,7 @@ impl<H: Host, T: Terminal> Step<'_, '_, '_, '_, H, T> {
         ensures { Asks H.Host T.Terminal (Calls.to_host (Calls.routine number state previous)) self.old result self.new }
     {
         let reply = self.host.routine(number, state, previous);
-        let answer = reply.map_or_else(Answer::Fault, |()| Answer::Nothing);
-        self.record(CallKind::Routine, 0, u32::from(number), answer);
+        self.record(CallKind::Routine, 0, u32::from(number), reply.into());
         reply
     }
 
@@ -138,8 +134,7 @@ impl<H: Host, T: Terminal> Step<'_, '_, '_, '_, H, T> {
         ensures { Asks H.Host T.Terminal (Calls.to_host (Calls.tell handler fault)) self.old result self.new }
     {
         let reply = self.host.tell(handler, fault);
-        let answer = reply.map_or_else(Answer::Fault, |()| Answer::Nothing);
-        self.record(CallKind::Tell, 0, u32::from(fault.code), answer);
+        self.record(CallKind::Tell, 0, u32::from(fault.code), reply.into());
         reply
     }
 

@@ -14,7 +14,7 @@ use host::journal::Record;
 use host::process::Host;
 use host::terminal::Terminal;
 
-// The places that a control or a poll may need on its sheet.
+// The places of a step's sheet, of which no control and no poll needs more.
 pub const LEAST_PLACES: usize = 8;
 
 // What a task does in one step.
@@ -23,7 +23,7 @@ trait Work {
 
     ghost tree: { Self → ℕ → TaskView → Interaction (TaskView × Self.Found) };
 
-    fn run<H: Host, T: Terminal>(self, step: &mut Step<'_, '_, '_, '_, H, T>) -> Self::Found
+    fn run<H: Host, T: Terminal>(self, step: &mut Step<'_, H, T>) -> Self::Found
         requires { Room 8 step.old }
         ensures { Performs H.Host T.Terminal 8 (tree self step.old.time (task_of step.old)) step.old (task_of step.new, result) step.new };
 }
@@ -33,7 +33,7 @@ impl Work for Control {
 
     ghost tree = { λ c. Tree.control c };
 
-    fn run<H: Host, T: Terminal>(self, step: &mut Step<'_, '_, '_, '_, H, T>) -> Outcome {
+    fn run<H: Host, T: Terminal>(self, step: &mut Step<'_, H, T>) -> Outcome {
         step.carry_out(self)
     }
 }
@@ -49,7 +49,7 @@ impl Work for Polling {
 
     ghost tree = { λ polling. Tree.poll_child polling.restart };
 
-    fn run<H: Host, T: Terminal>(self, step: &mut Step<'_, '_, '_, '_, H, T>) -> PollOutcome {
+    fn run<H: Host, T: Terminal>(self, step: &mut Step<'_, H, T>) -> PollOutcome {
         step.poll_child(self.restart)
     }
 }

@@ -30,7 +30,7 @@ fn sent_as(signal: u8) -> u8
     if signal == 0 { 15 } else { signal }
 }
 
-impl<H: Host, T: Terminal> Step<'_, '_, '_, '_, H, T> {
+impl<H: Host, T: Terminal> Step<'_, H, T> {
     // Starts a child; the outcome is the same where that faults.
     fn begin(&mut self, outcome: Outcome) -> Outcome
         requires { Room 3 self.old }

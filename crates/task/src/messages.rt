@@ -2,9 +2,11 @@
 ghost use Rattle.std.specs.Prelude.{◌≡◌};
 ghost use Rattle.task.specs.Messages.{at_end, orders};
 
-// What a job can be told to do. A grace is in milliseconds; routine, error handler, spawn hook and way of spawning are numbers.
-#[derive(Clone, Copy, Debug, PartialEq, Eq)]
+// What a job can be told to do. A grace is in milliseconds; routine, error handler, spawn hook and way of spawning are numbers. The
+// default fills slots of a queue that no message has.
+#[derive(Clone, Copy, Debug, Default, PartialEq, Eq)]
 pub enum Control {
+    #[default]
     Start,
     Stop,
     GracefulStop { signal: u8, grace: u32 },
@@ -59,7 +61,7 @@ impl From<GraceEnd> for Control {
 }
 
 // A control and the ticket that is raised when it is done.
-#[derive(Clone, Copy)]
+#[derive(Clone, Copy, Default)]
 pub struct ControlMessage {
     pub control: Control,
     pub ticket: u32,

@@ -9,7 +9,7 @@ use host::process::Host;
 use host::state::{CommandState, ProcessEnd};
 use host::terminal::Terminal;
 
-impl<H: Host, T: Terminal> Step<'_, '_, '_, '_, H, T> {
+impl<H: Host, T: Terminal> Step<'_, H, T> {
     // Once the child has ended: starts another one, if a restart is remembered.
     fn follow(&mut self, restart: bool) -> PollOutcome
         requires { Room 3 self.old }

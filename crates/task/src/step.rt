@@ -3,12 +3,12 @@ use crate::task::Task;
 use host::journal::Record;
 
 #[derive(Drop)]
-pub struct Step<'k, 'h, 't, 's, H, T> {
-    pub task: &'k mut Task,
-    pub host: &'h mut H,
-    pub terminal: &'t mut T,
+pub struct Step<'a, H, T> {
+    pub task: &'a mut Task,
+    pub host: &'a mut H,
+    pub terminal: &'a mut T,
     // Calls are recorded on it.
-    pub sheet: &'s mut [Record],
+    pub sheet: &'a mut [Record],
     // The places of the sheet that are written: a count, and no iterator over the rest, since it is answered in the end.
     pub used: usize,
     pub time: u64,

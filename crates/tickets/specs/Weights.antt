@@ -10,7 +10,7 @@ weight p w [] = 0
 weight p w (None ∷ es) = weight p w es
 weight p w (Some t ∷ es) = (if p t.mark then w t.serial else 0) + weight p w es
 
--- the weight of a list of tickets
+-- the weight of a list of tickets, by recursion for the same reason
 abbrev pub weigh : (ℕ → ℕ) → List ℕ → ℕ
 weigh w [] = 0
 weigh w (t ∷ ts) = w t + weigh w ts

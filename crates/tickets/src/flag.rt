@@ -85,11 +85,14 @@ fn free_places(entries: &[Place]) -> usize
     entries.iter().filter(|place| place.is_none()).count()
 }
 
-// 256 places, and the last serial given out. Serials count from 1 and are never given twice. The places are an array that is
+// The places of a table.
+pub const PLACES: usize = 256;
+
+// The places, and the last serial given out. Serials count from 1 and are never given twice. The places are an array that is
 // searched, and no map, since the memory of a job is fixed.
 #[derive(Clone, Copy)]
 pub struct Tickets {
-    entries: [Place; 256],
+    entries: [Place; PLACES],
     issued: u32,
 }
 
@@ -109,7 +112,7 @@ impl Tickets {
         ensures { result ≡ fresh }
     {
         Tickets {
-            entries: [None; 256],
+            entries: [None; PLACES],
             issued: 0,
         }
     }
@@ -127,6 +130,7 @@ impl Tickets {
     pub fn issue(&mut self, held: bool) -> Option<u32>
         ensures { (self.new, result) ≡ issue held self.old }
     {
+        // `fits` is asked, though `change` searches again: with the free place itself, the proof doesn't close.
         if !self.fits(1) {
             return None;
         }

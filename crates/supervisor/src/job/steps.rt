@@ -70,7 +70,7 @@ impl Job {
             time,
         ) else {
             // `may_step` has seen to the sheet, and `control` checks it again, since it takes every sheet.
-            unreachable()
+            unreachable!()
         };
         self.mailbox.settle(time, outcome, message.ticket);
         self.closed = outcome.closes();
@@ -104,7 +104,7 @@ impl Job {
             time,
         ) else {
             // As in a control step.
-            unreachable()
+            unreachable!()
         };
         self.mailbox.after_poll(outcome);
         Ok(Stepped {
