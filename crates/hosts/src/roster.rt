@@ -51,6 +51,7 @@ impl Roster {
             .position(|child| child.number == number)
     }
 
+    // By `find`, which lends the child; `place` tells where it lies to what changes it.
     fn child(&self, number: u32) -> Option<&Child>
         ensures { option_copied result ≡ find (λ c. number == c.number) (items self.now) }
     {

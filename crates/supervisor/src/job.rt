@@ -19,6 +19,7 @@ pub struct Job {
     // The time of the last accepted step.
     clock: u64,
     ghost in_order: { closed ≡ false → InOrder [] (mailbox_view mailbox) },
+    // Of a closed job too, so it stands beside `in_order`.
     ghost full: { Full (mailbox_view mailbox) },
     ghost granted: { Granted (task_view task) },
     ghost timely: { clock ≤ 2 ^ 62 },
