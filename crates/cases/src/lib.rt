@@ -1,5 +1,9 @@
-// Runs of calls on the simulated host, as examples.
+// Runs of calls on the simulated host and the prepared one, as examples.
 #![tactic(auto)]
 
+#[cfg(test)]
+mod bench;
+#[cfg(test)]
+mod graces;
 #[cfg(test)]
 mod tests;
