@@ -10,9 +10,31 @@ use supervisor::answers::StepKind;
 use supervisor::errors::Refusal;
 use supervisor::job::Job;
 use supervisor::sends::Send;
+use task::messages::Control;
 
 // A record as it is printed: the number of the call, child, number and answer.
 pub type Line = [i64; 4];
+
+// What a host answers whose sheet is used up.
+pub const USED_UP: i64 = -61;
+
+// The records of ending the child 100 by force, and of the next spawn.
+pub const KILL: Line = [4, 100, 0, 0];
+
+pub const WAIT: Line = [3, 100, 0, 2009];
+
+pub const SPAWN: Line = [1, 0, 0, 101];
+
+// A graceful stop and a graceful restart: the first sends 15.
+pub const GRACEFUL_STOP: Control = Control::GracefulStop {
+    signal: 0,
+    grace: 500,
+};
+
+pub const GRACEFUL_RESTART: Control = Control::TryGracefulRestart {
+    signal: 2,
+    grace: 500,
+};
 
 fn line(record: &Record) -> Line {
     [
@@ -43,8 +65,8 @@ pub fn killed(started: u64, finished: u64) -> CommandState {
     }
 }
 
-// A call, and what is expected of it: its answer, its records, whether it takes an order to start, and, if it is a step, the state
-// after it. The records are some lines, and behind them one that tells a fault, if it is told.
+// A call, and what is expected of it: its answer, its records, whether it takes an order to start, and, for a step, the state after
+// it. The records are some lines, and behind them one that tells a fault, if it is told.
 #[derive(Clone, Copy)]
 pub struct Row<'a> {
     pub call: Call,
@@ -56,7 +78,7 @@ pub struct Row<'a> {
 }
 
 // A call that writes no record.
-fn quiet<'a>(call: Call, answer: Result<u32, Refusal>) -> Row<'a> {
+pub fn quiet<'a>(call: Call, answer: Result<u32, Refusal>) -> Row<'a> {
     Row {
         call,
         answer,
@@ -67,7 +89,7 @@ fn quiet<'a>(call: Call, answer: Result<u32, Refusal>) -> Row<'a> {
     }
 }
 
-fn step(kind: StepKind, time: u64) -> Call {
+pub fn step(kind: StepKind, time: u64) -> Call {
     Call::Step { kind, time }
 }
 
@@ -131,10 +153,10 @@ pub fn polled(time: u64, progress: u32, lines: &[Line], state: CommandState) -> 
     }
 }
 
-// The answers, and then `rest` for each further call.
-fn answer_sheet(answers: &[i64], rest: i64) -> [i64; 16] {
+// The answers before and after, and then `rest` for each further call.
+fn answer_sheet(before: &[i64], after: &[i64], rest: i64) -> [i64; 16] {
     let mut sheet = [rest; 16];
-    for (place, answer) in sheet.iter_mut().zip(answers) {
+    for (place, answer) in sheet.iter_mut().zip(before.iter().chain(after)) {
         *place = *answer;
     }
     sheet
@@ -149,10 +171,10 @@ pub struct Bench {
 
 impl Bench {
     // A fresh job of the program 1 with no options, on a host with these answers, and then `rest`.
-    pub fn new(answers: &[i64], rest: i64) -> Result<Self, Refusal> {
+    fn new(before: &[i64], after: &[i64], rest: i64) -> Result<Self, Refusal> {
         Ok(Bench {
             job: Job::new(1, 0)?,
-            host: PreparedHost::new(answer_sheet(answers, rest)),
+            host: PreparedHost::new(answer_sheet(before, after, rest)),
             terminal: AbsentTerminal::new(),
         })
     }
@@ -182,7 +204,7 @@ impl Bench {
             let wanted = row.lines.get(i).copied().unwrap_or(blank);
             assert_eq!(rt; line(record), wanted, "record {i} of {call:?}");
         }
-        let told = if row.told.is_some() { 1 } else { 0 };
+        let told = usize::from(row.told.is_some());
         assert_eq!(rt;
             done.records,
             row.lines.len().saturating_add(told),
@@ -198,11 +220,70 @@ impl Bench {
             self.check(rt, row);
         }
     }
+
+    // Sends, and takes what was sent in the step of the row; the ticket is raised by it, or not.
+    pub fn take(
+        &mut self,
+        rt: &impl Abort,
+        send: Send,
+        row: &Row,
+        raised: u32,
+    ) -> Result<(), Refusal> {
+        let ticket = u64::from(self.job.send(send)?);
+        self.check_all(
+            rt,
+            &[looked(ticket, Ok(0)), *row, looked(ticket, Ok(raised))],
+        );
+        Ok(())
+    }
 }
 
-// Checks the rows on a fresh job, on a host with these answers and no more.
-pub fn check_fresh(rt: &impl Abort, answers: &[i64], rows: &[Row]) -> Result<(), Refusal> {
-    let mut bench = Bench::new(answers, -61)?;
-    bench.check_all(rt, rows);
-    Ok(())
+// The state that a job is brought into.
+#[derive(Clone, Copy)]
+pub enum Before {
+    Pending,
+    // The child 100 runs since 10.
+    Running,
+    // It has exited with 3 at 20.
+    Finished,
+}
+
+impl Before {
+    pub fn state(self) -> CommandState {
+        match self {
+            Before::Pending => CommandState::Pending,
+            Before::Running => running(100, 10),
+            Before::Finished => exited(3, 10, 20),
+        }
+    }
+
+    // A job in this state, on a host with these answers to what follows, and then `rest`.
+    pub fn bench(self, rt: &impl Abort, answers: &[i64], rest: i64) -> Result<Bench, Refusal> {
+        let mut bench = match self {
+            Before::Pending => Bench::new(&[], answers, rest)?,
+            Before::Running => Bench::new(&[100], answers, rest)?,
+            Before::Finished => Bench::new(&[100, 1003], answers, rest)?,
+        };
+        let start = [
+            sent(Send::Start, 1),
+            ordered(10, &[[1, 0, 0, 100]], running(100, 10)),
+        ];
+        let end = polled(20, 1, &[[2, 100, 0, 1003]], exited(3, 10, 20));
+        match self {
+            Before::Pending => {}
+            Before::Running => bench.check_all(rt, &start),
+            Before::Finished => {
+                bench.check_all(rt, &start);
+                bench.check(rt, &end);
+            }
+        }
+        Ok(bench)
+    }
+
+    // Checks the rows on such a job, on a host with these answers to them and no more.
+    pub fn check(self, rt: &impl Abort, answers: &[i64], rows: &[Row]) -> Result<(), Refusal> {
+        let mut bench = self.bench(rt, answers, USED_UP)?;
+        bench.check_all(rt, rows);
+        Ok(())
+    }
 }

@@ -1,6 +1,7 @@
 // Graces that the child outlasts, and graces that it meets.
 use crate::bench::{
-    check_fresh, closed, exited, idle, killed, looked, ordered, polled, running, sent, taken,
+    Before, KILL, SPAWN, WAIT, closed, exited, idle, killed, looked, ordered, polled, running,
+    sent, taken,
 };
 use host::state::CommandState;
 use std::test::Fail;
@@ -21,18 +22,16 @@ const RESTART: Send = Send::TryRestartWithSignal {
 // The deadline's message is taken at 520, not at 519, and before the urgent controls.
 #[test]
 fn a_stop_that_is_outlasted(rt: HostRuntime) -> Result<(), Fail> {
-    check_fresh(
+    Before::Running.check(
         &rt,
-        &[100, 0, 0, 2009],
+        &[0, 0, 2009],
         &[
-            sent(Send::Start, 1),
-            ordered(10, &[[1, 0, 0, 100]], running(100, 10)),
             sent(STOP, 2),
             taken(20, &[[5, 100, 15, 0]], running(100, 10)),
             idle(519, running(100, 10)),
             looked(2, Ok(0)),
             sent(Send::DeleteNow, 4),
-            taken(520, &[[4, 100, 0, 0], [3, 100, 0, 2009]], killed(10, 520)),
+            taken(520, &[KILL, WAIT], killed(10, 520)),
             looked(2, Ok(1)),
             taken(520, &[], killed(10, 520)),
             looked(4, Ok(0)),
@@ -46,22 +45,16 @@ fn a_stop_that_is_outlasted(rt: HostRuntime) -> Result<(), Fail> {
 // It launches once, and the end of the new child is followed by nothing.
 #[test]
 fn a_restart_that_is_outlasted(rt: HostRuntime) -> Result<(), Fail> {
-    check_fresh(
+    Before::Running.check(
         &rt,
-        &[100, 0, 0, 2009, 101, 1000],
+        &[0, 0, 2009, 101, 1000],
         &[
-            sent(Send::Start, 1),
-            ordered(10, &[[1, 0, 0, 100]], running(100, 10)),
             sent(RESTART, 2),
             ordered(20, &[[5, 100, 2, 0]], running(100, 10)),
             idle(519, running(100, 10)),
             looked(2, Ok(0)),
             sent(Send::DeleteNow, 4),
-            taken(
-                520,
-                &[[4, 100, 0, 0], [3, 100, 0, 2009], [1, 0, 0, 101]],
-                running(101, 520),
-            ),
+            taken(520, &[KILL, WAIT, SPAWN], running(101, 520)),
             looked(2, Ok(1)),
             looked(4, Ok(0)),
             polled(600, 1, &[[2, 101, 0, 1000]], exited(0, 520, 600)),
@@ -78,16 +71,14 @@ fn a_grace_of_nothing_is_over_at_once(rt: HostRuntime) -> Result<(), Fail> {
         signal: 15,
         grace: 0,
     };
-    check_fresh(
+    Before::Running.check(
         &rt,
-        &[100, 0, 0, 2009],
+        &[0, 0, 2009],
         &[
-            sent(Send::Start, 1),
-            ordered(10, &[[1, 0, 0, 100]], running(100, 10)),
             sent(send, 2),
             taken(10, &[[5, 100, 15, 0]], running(100, 10)),
             looked(2, Ok(0)),
-            taken(10, &[[4, 100, 0, 0], [3, 100, 0, 2009]], killed(10, 10)),
+            taken(10, &[KILL, WAIT], killed(10, 10)),
             looked(2, Ok(1)),
         ],
     )?;
@@ -102,21 +93,14 @@ fn a_grace_may_end_after_the_latest_time(rt: HostRuntime) -> Result<(), Fail> {
         signal: 15,
         grace: 86_400_000,
     };
-    check_fresh(
+    Before::Running.check(
         &rt,
-        &[100, 0, 1003, 101],
+        &[0, 1003, 101],
         &[
-            sent(Send::Start, 1),
-            ordered(10, &[[1, 0, 0, 100]], running(100, 10)),
             sent(send, 2),
             ordered(latest, &[[5, 100, 15, 0]], running(100, 10)),
             idle(latest, running(100, 10)),
-            polled(
-                latest,
-                1,
-                &[[2, 100, 0, 1003], [1, 0, 0, 101]],
-                running(101, latest),
-            ),
+            polled(latest, 1, &[[2, 100, 0, 1003], SPAWN], running(101, latest)),
             looked(2, Ok(1)),
         ],
     )?;
@@ -125,18 +109,20 @@ fn a_grace_may_end_after_the_latest_time(rt: HostRuntime) -> Result<(), Fail> {
 
 #[test]
 fn a_stop_that_is_met(rt: HostRuntime) -> Result<(), Fail> {
-    check_fresh(
+    Before::Running.check(
         &rt,
-        &[100, 0, 0, 1003],
+        &[0, 0, 1003],
         &[
-            sent(Send::Start, 1),
-            ordered(10, &[[1, 0, 0, 100]], running(100, 10)),
             sent(STOP, 2),
             taken(20, &[[5, 100, 15, 0]], running(100, 10)),
+            sent(Send::ToWait, 3),
+            taken(21, &[], running(100, 10)),
             polled(30, 0, &[[2, 100, 0, 0]], running(100, 10)),
             looked(2, Ok(0)),
+            looked(3, Ok(0)),
             polled(40, 1, &[[2, 100, 0, 1003]], exited(3, 10, 40)),
             looked(2, Ok(1)),
+            looked(3, Ok(1)),
             polled(50, 0, &[], exited(3, 10, 40)),
             idle(520, exited(3, 10, 40)),
         ],
@@ -147,21 +133,14 @@ fn a_stop_that_is_met(rt: HostRuntime) -> Result<(), Fail> {
 // One launch, at the child's end; neither the former deadline nor the next end brings another one.
 #[test]
 fn a_restart_that_is_met(rt: HostRuntime) -> Result<(), Fail> {
-    check_fresh(
+    Before::Running.check(
         &rt,
-        &[100, 0, 1003, 101, 1000],
+        &[0, 1003, 101, 1000],
         &[
-            sent(Send::Start, 1),
-            ordered(10, &[[1, 0, 0, 100]], running(100, 10)),
             sent(RESTART, 2),
             ordered(20, &[[5, 100, 2, 0]], running(100, 10)),
             looked(2, Ok(0)),
-            polled(
-                40,
-                1,
-                &[[2, 100, 0, 1003], [1, 0, 0, 101]],
-                running(101, 40),
-            ),
+            polled(40, 1, &[[2, 100, 0, 1003], SPAWN], running(101, 40)),
             looked(2, Ok(1)),
             idle(520, running(101, 40)),
             polled(600, 1, &[[2, 101, 0, 1000]], exited(0, 40, 600)),
@@ -175,12 +154,10 @@ fn a_restart_that_is_met(rt: HostRuntime) -> Result<(), Fail> {
 // The launch that follows the end faults: that is told, and no other launch follows.
 #[test]
 fn a_restart_that_is_met_and_faults(rt: HostRuntime) -> Result<(), Fail> {
-    check_fresh(
+    Before::Running.check(
         &rt,
-        &[100, 0, 1003, -2, 0],
+        &[0, 1003, -2, 0],
         &[
-            sent(Send::Start, 1),
-            ordered(10, &[[1, 0, 0, 100]], running(100, 10)),
             sent(Send::Control(Control::SetErrorHandler(7)), 2),
             taken(10, &[], running(100, 10)),
             sent(RESTART, 3),
@@ -202,22 +179,53 @@ fn a_restart_that_is_met_and_faults(rt: HostRuntime) -> Result<(), Fail> {
 // A fault of the poll leaves the grace as it is.
 #[test]
 fn a_poll_that_faults_in_a_grace(rt: HostRuntime) -> Result<(), Fail> {
-    check_fresh(
+    Before::Running.check(
         &rt,
-        &[100, 0, -5, 0, 2009, 101],
+        &[0, -5, 0, 2009, 101],
         &[
-            sent(Send::Start, 1),
-            ordered(10, &[[1, 0, 0, 100]], running(100, 10)),
             sent(RESTART, 2),
             ordered(20, &[[5, 100, 2, 0]], running(100, 10)),
             polled(40, 1, &[[2, 100, 0, -5]], running(100, 10)),
             looked(2, Ok(0)),
-            taken(
-                520,
-                &[[4, 100, 0, 0], [3, 100, 0, 2009], [1, 0, 0, 101]],
-                running(101, 520),
-            ),
+            taken(520, &[KILL, WAIT, SPAWN], running(101, 520)),
             looked(2, Ok(1)),
+        ],
+    )?;
+    Ok(())
+}
+
+#[test]
+fn a_deadline_goes_before_a_high_control(rt: HostRuntime) -> Result<(), Fail> {
+    Before::Running.check(
+        &rt,
+        &[0, 0, 2009],
+        &[
+            sent(STOP, 2),
+            taken(20, &[[5, 100, 15, 0]], running(100, 10)),
+            sent(Send::ToWait, 3),
+            taken(520, &[KILL, WAIT], killed(10, 520)),
+            looked(2, Ok(1)),
+            looked(3, Ok(0)),
+            taken(520, &[], killed(10, 520)),
+            looked(3, Ok(1)),
+        ],
+    )?;
+    Ok(())
+}
+
+// A kill that faults at the deadline ends the restart: its ticket is raised, and the child's end starts nothing.
+#[test]
+fn a_restart_that_is_outlasted_and_faults(rt: HostRuntime) -> Result<(), Fail> {
+    Before::Running.check(
+        &rt,
+        &[0, -3, 1003],
+        &[
+            sent(RESTART, 2),
+            ordered(20, &[[5, 100, 2, 0]], running(100, 10)),
+            taken(520, &[[4, 100, 0, -3]], running(100, 10)),
+            looked(2, Ok(1)),
+            idle(521, running(100, 10)),
+            polled(530, 1, &[[2, 100, 0, 1003]], exited(3, 10, 530)),
         ],
     )?;
     Ok(())
@@ -226,12 +234,10 @@ fn a_poll_that_faults_in_a_grace(rt: HostRuntime) -> Result<(), Fail> {
 // The normal start waits through the grace; the high control and the urgent ones are taken in it.
 #[test]
 fn what_waits_in_a_grace(rt: HostRuntime) -> Result<(), Fail> {
-    check_fresh(
+    Before::Running.check(
         &rt,
-        &[100, 0, 0, 2009, 101],
+        &[0, 0, 2009],
         &[
-            sent(Send::Start, 1),
-            ordered(10, &[[1, 0, 0, 100]], running(100, 10)),
             sent(STOP, 2),
             taken(20, &[[5, 100, 15, 0]], running(100, 10)),
             sent(Send::Start, 3),
@@ -241,7 +247,7 @@ fn what_waits_in_a_grace(rt: HostRuntime) -> Result<(), Fail> {
             looked(4, Ok(0)),
             idle(32, running(100, 10)),
             sent(Send::DeleteNow, 6),
-            taken(33, &[[4, 100, 0, 0], [3, 100, 0, 2009]], killed(10, 33)),
+            taken(33, &[KILL, WAIT], killed(10, 33)),
             looked(4, Ok(1)),
             looked(2, Ok(0)),
             looked(3, Ok(0)),
@@ -255,34 +261,30 @@ fn what_waits_in_a_grace(rt: HostRuntime) -> Result<(), Fail> {
 // An urgent stop leaves the timer, whose message finds no child: a stop then does nothing, and a restart launches all the same.
 #[test]
 fn a_deadline_after_an_urgent_stop(rt: HostRuntime) -> Result<(), Fail> {
-    check_fresh(
+    Before::Running.check(
         &rt,
-        &[100, 0, 0, 2009],
+        &[0, 0, 2009],
         &[
-            sent(Send::Start, 1),
-            ordered(10, &[[1, 0, 0, 100]], running(100, 10)),
             sent(STOP, 2),
             taken(20, &[[5, 100, 15, 0]], running(100, 10)),
             sent(Send::DeleteNow, 4),
-            taken(30, &[[4, 100, 0, 0], [3, 100, 0, 2009]], killed(10, 30)),
+            taken(30, &[KILL, WAIT], killed(10, 30)),
             looked(2, Ok(0)),
             taken(520, &[], killed(10, 30)),
             looked(2, Ok(1)),
             looked(4, Ok(0)),
         ],
     )?;
-    check_fresh(
+    Before::Running.check(
         &rt,
-        &[100, 0, 0, 2009, 101],
+        &[0, 0, 2009, 101],
         &[
-            sent(Send::Start, 1),
-            ordered(10, &[[1, 0, 0, 100]], running(100, 10)),
             sent(RESTART, 2),
             ordered(20, &[[5, 100, 2, 0]], running(100, 10)),
             sent(Send::DeleteNow, 4),
-            taken(30, &[[4, 100, 0, 0], [3, 100, 0, 2009]], killed(10, 30)),
+            taken(30, &[KILL, WAIT], killed(10, 30)),
             looked(2, Ok(0)),
-            taken(520, &[[1, 0, 0, 101]], running(101, 520)),
+            taken(520, &[SPAWN], running(101, 520)),
             looked(2, Ok(1)),
             closed(521, &[[7, 101, 0, 0]], running(101, 520)),
         ],
@@ -297,33 +299,29 @@ fn a_graceful_stop_and_a_start(rt: HostRuntime) -> Result<(), Fail> {
         signal: 15,
         grace: 500,
     };
-    check_fresh(
+    Before::Running.check(
         &rt,
-        &[100, 0, 0, 2009, 101],
+        &[0, 0, 2009, 101],
         &[
-            sent(Send::Start, 1),
-            ordered(10, &[[1, 0, 0, 100]], running(100, 10)),
             sent(send, 3),
             taken(20, &[[5, 100, 15, 0]], running(100, 10)),
             idle(519, running(100, 10)),
-            taken(520, &[[4, 100, 0, 0], [3, 100, 0, 2009]], killed(10, 520)),
+            taken(520, &[KILL, WAIT], killed(10, 520)),
             looked(2, Err(Refusal::Unknown)),
             looked(3, Ok(0)),
-            ordered(520, &[[1, 0, 0, 101]], running(101, 520)),
+            ordered(520, &[SPAWN], running(101, 520)),
             looked(3, Ok(1)),
         ],
     )?;
-    check_fresh(
+    Before::Running.check(
         &rt,
-        &[100, 0, 1003, 101],
+        &[0, 1003, 101],
         &[
-            sent(Send::Start, 1),
-            ordered(10, &[[1, 0, 0, 100]], running(100, 10)),
             sent(send, 3),
             taken(20, &[[5, 100, 15, 0]], running(100, 10)),
             polled(40, 1, &[[2, 100, 0, 1003]], exited(3, 10, 40)),
             looked(3, Ok(0)),
-            ordered(41, &[[1, 0, 0, 101]], running(101, 41)),
+            ordered(41, &[SPAWN], running(101, 41)),
             looked(3, Ok(1)),
         ],
     )?;
