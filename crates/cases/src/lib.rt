@@ -6,6 +6,8 @@ mod bench;
 #[cfg(test)]
 mod controls;
 #[cfg(test)]
+mod faults;
+#[cfg(test)]
 mod graces;
 #[cfg(test)]
 mod tests;
