@@ -10,4 +10,6 @@ mod faults;
 #[cfg(test)]
 mod graces;
 #[cfg(test)]
+mod sends;
+#[cfg(test)]
 mod tests;
