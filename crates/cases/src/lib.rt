@@ -10,6 +10,8 @@ mod faults;
 #[cfg(test)]
 mod graces;
 #[cfg(test)]
+mod refusals;
+#[cfg(test)]
 mod sends;
 #[cfg(test)]
 mod tests;
