@@ -14,4 +14,6 @@ mod refusals;
 #[cfg(test)]
 mod sends;
 #[cfg(test)]
+mod steps;
+#[cfg(test)]
 mod tests;
