@@ -4,6 +4,8 @@
 #[cfg(test)]
 mod bench;
 #[cfg(test)]
+mod closing;
+#[cfg(test)]
 mod controls;
 #[cfg(test)]
 mod faults;
