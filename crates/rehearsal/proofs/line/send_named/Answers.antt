@@ -6,6 +6,9 @@ use Rattle.rehearsal.proofs.line.send_named.Goals as goal
 pub returns-in-start : goal.returns-in-start
 returns-in-start c = rw (text_from_reads c.args.name.now (codes "start") (omega arith) (search rules)) refl
 
+pub returns-in-stop : goal.returns-in-stop
+returns-in-stop c = rw (text_from_reads c.args.name.now (codes "stop") (omega arith) (search rules)) refl
+
 pub returns-in-restart : goal.returns-in-restart
 returns-in-restart c = rw (text_from_reads c.args.name.now (codes "restart") (omega arith) (search rules)) refl
 
