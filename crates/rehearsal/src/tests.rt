@@ -13,7 +13,8 @@ fn prints(rt: &(impl Abort + AllocGlobal), script: &[u8], text: &str) -> Result<
 fn faulty(rt: &(impl Abort + AllocGlobal), sends: &[&str]) -> Result<(), Fail> {
     for send in sends {
         let script = format!(in rt.alloc(); "c\t{send}\n")?;
-        prints(rt, script.as_bytes(), "13\t1\n")?;
+        let printed = rehearse(rt.alloc(), script.as_bytes())?;
+        assert_eq!(rt; printed.as_str(), "13\t1\n", "{send:?}");
     }
     Ok(())
 }
@@ -179,5 +180,15 @@ fn a_graceful_restart_past_its_deadline(rt: HostRuntime) -> Result<(), Fail> {
         b"m\t0\t32768\nc\tstart\ns\tc\t10\nc\ttry_restart_with_signal\t15\t500\ns\tc\t20\nc\tstart\ns\tc\t519\ns\tc\t520\ns\tc\t520\nw\tx\t101\t0\ns\te\t600\n";
     let text =
         "1\tm\t0\t0\n2\tc\t0\t1\n3\ts\t0\t1\nj\t1\t0\t0\t100\n4\tc\t0\t2\n5\ts\t0\t1\nj\t5\t100\t15\t0\n6\tc\t0\t3\n7\ts\t0\t0\n8\ts\t0\t1\nj\t4\t100\t0\t0\nj\t3\t100\t0\t2009\nj\t1\t0\t0\t101\n9\ts\t0\t1\n10\tw\t0\t0\n11\ts\t0\t1\nj\t2\t101\t0\t1000\n";
+    prints(&rt, script, text)
+}
+
+// The script examples/hopper-restart.script.
+#[test]
+fn a_hopper_that_outlasts_its_grace_is_started_once_more(rt: HostRuntime) -> Result<(), Fail> {
+    let script =
+        b"m\t0\t32768\nc\tstart\ns\tc\t1000\nl\t1\nc\ttry_restart_with_signal\t15\t5000\ns\tc\t2000\nl\t2\nc\tto_wait\ns\tc\t2500\ns\te\t3000\ns\tc\t6999\nl\t2\ns\tc\t7000\nl\t2\nl\t3\nw\tx\t100\t0\nw\tx\t101\t0\ns\te\t8000\ns\te\t8500\ns\tc\t9000\ng\t2\nl\t2\n";
+    let text =
+        "1\tm\t0\t0\n2\tc\t0\t1\n3\ts\t0\t1\nj\t1\t0\t0\t100\n4\tl\t0\t1\n5\tc\t0\t2\n6\ts\t0\t1\nj\t5\t100\t15\t0\n7\tl\t0\t0\n8\tc\t0\t3\n9\ts\t0\t1\n10\ts\t0\t0\nj\t2\t100\t0\t0\n11\ts\t0\t0\n12\tl\t0\t0\n13\ts\t0\t1\nj\t4\t100\t0\t0\nj\t3\t100\t0\t2009\nj\t1\t0\t0\t101\n14\tl\t0\t1\n15\tl\t0\t1\n16\tw\t11\t0\n17\tw\t0\t0\n18\ts\t0\t1\nj\t2\t101\t0\t1000\n19\ts\t0\t0\n20\ts\t0\t0\n21\tg\t0\t0\n22\tl\t11\t0\n";
     prints(&rt, script, text)
 }
