@@ -1,5 +1,5 @@
 -- What a line of a script says. A tab is the byte 9.
-use Rattle.std.specs.Prelude.{ℕ, Bool, if◌then◌else◌, ◌&&◌, List, [], ◌∷◌, Some, None, codes, Option, ◌==◌, nat_le}
+use Rattle.std.specs.Prelude.{ℕ, ◌-◌, ◌^◌, Bool, if◌then◌else◌, ◌&&◌, List, [], ◌∷◌, Some, None, codes, min, Option, ◌==◌, nat_le}
 use Rattle.std.specs.Option.{option_and_then, option_map}
 use Rattle.std.specs.Str.{bytes_eq}
 use Rattle.drive.specs.declared.calls.Call.{Call}
@@ -11,6 +11,7 @@ use Rattle.supervisor.specs.declared.answers.StepKind.TheVariants.{Child, Contro
 use Rattle.rehearsal.specs.declared.line.Line.{Line}
 use Rattle.rehearsal.specs.declared.line.Line as Lines
 use Rattle.rehearsal.specs.Numbers.{number_of, numbers_of}
+use Rattle.rehearsal.specs.Parts.{parted}
 
 -- the letter of a call
 abbrev pub call_letter : Call → ℕ
@@ -26,13 +27,47 @@ letter_of (Lines.TheVariants.Call call) = call_letter call
 letter_of (Lines.TheVariants.Exit child code) = 119
 letter_of (Lines.TheVariants.Stop child) = 119
 
--- the send of a name
+-- the send that a name without arguments says
 abbrev pub send_named : List ℕ → Option Send
 send_named name =
     if bytes_eq name (codes "start") then Some Sends.TheVariants.Start
-    else (if bytes_eq name (codes "stop") then Some Sends.TheVariants.Stop
-    else (if bytes_eq name (codes "to_wait") then Some Sends.TheVariants.ToWait
-    else None))
+    else if bytes_eq name (codes "stop") then Some Sends.TheVariants.Stop
+    else if bytes_eq name (codes "restart") then Some Sends.TheVariants.Restart
+    else if bytes_eq name (codes "try_restart") then Some Sends.TheVariants.TryRestart
+    else if bytes_eq name (codes "delete") then Some Sends.TheVariants.Delete
+    else if bytes_eq name (codes "delete_now") then Some Sends.TheVariants.DeleteNow
+    else if bytes_eq name (codes "to_wait") then Some Sends.TheVariants.ToWait
+    else None
+
+-- A signal has one byte and a grace four. A larger number stands as the largest, since a job refuses both alike: all signals over
+-- 31, and all graces over a day.
+abbrev pub signal_of : ℕ → ℕ
+signal_of n = min n 255
+
+abbrev pub grace_of : ℕ → ℕ
+grace_of n = min n (2 ^ 32 - 1)
+
+-- the send that a name with a signal and a grace says
+abbrev pub with_grace : List ℕ → ℕ → ℕ → Option Send
+with_grace name signal grace =
+    if bytes_eq name (codes "stop_with_signal") then Some (Sends.TheVariants.StopWithSignal signal grace)
+    else if bytes_eq name (codes "restart_with_signal") then Some (Sends.TheVariants.RestartWithSignal signal grace)
+    else if bytes_eq name (codes "try_restart_with_signal") then Some (Sends.TheVariants.TryRestartWithSignal signal grace)
+    else None
+
+-- the send that a name and its arguments say: a signal, or a signal and a grace
+abbrev pub send_with : List ℕ → List ℕ → Option Send
+send_with name arguments =
+    if bytes_eq name (codes "signal") then option_map (λ n. Sends.TheVariants.Signal (signal_of n)) (number_of arguments)
+    else option_and_then (λ p. with_grace name (signal_of p.0) (grace_of p.1)) (numbers_of arguments)
+
+-- c: the name of a send, and behind a tab its arguments, if there are any
+abbrev pub send_said : List ℕ → Option (List ℕ × List ℕ) → Option Send
+send_said fields None = send_named fields
+send_said fields (Some p) = send_with p.0 p.1
+
+abbrev pub send_of : List ℕ → Option Send
+send_of fields = send_said fields (parted 9 fields)
 
 -- a letter and what stands behind its tab
 abbrev pub lettered : List ℕ → Option (ℕ × List ℕ)
@@ -43,11 +78,6 @@ lettered (letter ∷ tab ∷ rest) = if tab == 9 then Some (letter, rest) else N
 -- m: options and mask
 abbrev pub make_line : ℕ × ℕ → Line
 make_line p = Lines.TheVariants.Make p.0 p.1
-
--- c: a word, which is no number, that is the name of a send
-abbrev pub send_call : Option ℕ → Option Send → Option Call
-send_call (Some n) send = None
-send_call None send = option_map Calls.TheVariants.Send send
 
 -- w x: a child and a code up to 255
 abbrev pub exit_line : ℕ × ℕ → Option Line
@@ -75,11 +105,11 @@ event_line p =
 -- the call that a letter and its fields say
 abbrev pub call_by : ℕ → List ℕ → Option Call
 call_by letter fields =
-    if letter == 99 then send_call (number_of fields) (send_named fields)
-    else (if letter == 115 then option_and_then step_call (lettered fields)
-    else (if letter == 108 then option_map Calls.TheVariants.Look (number_of fields)
-    else (if letter == 103 then option_map Calls.TheVariants.Collect (number_of fields)
-    else None)))
+    if letter == 99 then option_map Calls.TheVariants.Send (send_of fields)
+    else if letter == 115 then option_and_then step_call (lettered fields)
+    else if letter == 108 then option_map Calls.TheVariants.Look (number_of fields)
+    else if letter == 103 then option_map Calls.TheVariants.Collect (number_of fields)
+    else None
 
 -- what a letter and its fields say; m only where the line is the first
 abbrev pub line_by : Bool → ℕ → List ℕ → Option Line

@@ -1,9 +1,10 @@
 // What a line of a script says.
 ghost use Rattle.std.specs.Prelude.{◌≡◌};
 ghost use Rattle.std.specs.Option.{option_and_then, option_map};
-ghost use Rattle.rehearsal.specs.Lines.{call_by, call_letter, event_line, exit_line, letter_of, lettered, line_by, line_of, send_call, send_named, step_call, step_kind, stop_line};
+ghost use Rattle.rehearsal.specs.Lines.{call_by, call_letter, event_line, exit_line, grace_of, letter_of, lettered, line_by, line_of, send_named, send_of, send_with, signal_of, step_call, step_kind, stop_line, with_grace};
 ghost use Rattle.rehearsal.specs.Numbers.{number_of, numbers_of};
 
+use crate::parts::cut;
 use crate::token::{number, two_numbers};
 use drive::calls::Call;
 use supervisor::answers::StepKind;
@@ -46,14 +47,58 @@ impl Line {
     }
 }
 
+// The sends without arguments.
 fn send_named(name: &[u8]) -> Option<Send>
     ensures { result ≡ send_named name.now }
 {
     match name {
         b"start" => Some(Send::Start),
         b"stop" => Some(Send::Stop),
+        b"restart" => Some(Send::Restart),
+        b"try_restart" => Some(Send::TryRestart),
+        b"delete" => Some(Send::Delete),
+        b"delete_now" => Some(Send::DeleteNow),
         b"to_wait" => Some(Send::ToWait),
         _ => None,
+    }
+}
+
+// A job refuses all signals over 31 alike, and all graces over a day: so a number that is too large for its type may stand as the
+// type's largest. On a closed job it isn't looked at.
+fn signal_of(number: u64) -> u8
+    ensures { result ≡ signal_of number }
+{
+    u8::try_from(number).unwrap_or(u8::MAX)
+}
+
+fn grace_of(number: u64) -> u32
+    ensures { result ≡ grace_of number }
+{
+    u32::try_from(number).unwrap_or(u32::MAX)
+}
+
+// The sends with a signal and a grace.
+fn with_grace(name: &[u8], signal: u8, grace: u32) -> Option<Send>
+    ensures { result ≡ with_grace name.now signal grace }
+{
+    match name {
+        b"stop_with_signal" => Some(Send::StopWithSignal { signal, grace }),
+        b"restart_with_signal" => Some(Send::RestartWithSignal { signal, grace }),
+        b"try_restart_with_signal" => Some(Send::TryRestartWithSignal { signal, grace }),
+        _ => None,
+    }
+}
+
+// The sends with arguments, which stand behind the name's tab.
+fn send_with(name: &[u8], arguments: &[u8]) -> Option<Send>
+    ensures { result ≡ send_with name.now arguments.now }
+{
+    match name {
+        b"signal" => number(arguments).map(|signal| Send::Signal(signal_of(signal))),
+        _ => {
+            let (signal, grace) = two_numbers(arguments)?;
+            with_grace(name, signal_of(signal), grace_of(grace))
+        }
     }
 }
 
@@ -67,11 +112,13 @@ fn lettered(bytes: &[u8]) -> Option<(u8, &[u8])>
     }
 }
 
-// The sends have no arguments, so their fields are one word; the name of a send is never a number.
-fn read_send(fields: &[u8]) -> Option<Call>
-    ensures { result ≡ send_call (number_of fields.now) (send_named fields.now) }
+fn read_send(fields: &[u8]) -> Option<Send>
+    ensures { result ≡ send_of fields.now }
 {
-    send_named(fields).map(Call::Send)
+    match cut(fields, b'\t') {
+        Some((name, arguments)) => send_with(name, arguments),
+        None => send_named(fields),
+    }
 }
 
 fn step_kind(letter: u8) -> Option<StepKind>
@@ -127,7 +174,7 @@ fn read_call(letter: u8, fields: &[u8]) -> Option<Call>
     ensures { result ≡ call_by letter fields.now }
 {
     match letter {
-        b'c' => read_send(fields),
+        b'c' => read_send(fields).map(Call::Send),
         b's' => read_step(fields),
         b'l' => number(fields).map(|ticket| Call::Look { ticket }),
         b'g' => number(fields).map(|ticket| Call::Collect { ticket }),
