@@ -40,7 +40,7 @@ impl<A: AsSlice<i64> + Drop> PreparedHost<A> {
     pub fn place(&self) -> usize
         ensures { result ≡ (view A.items self.now).place }
     {
-        self.place // the place of the next one
+        self.place
     }
 
     // Takes the next answer; one that doesn't fit is used up.
