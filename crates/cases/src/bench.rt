@@ -45,11 +45,11 @@ fn line(record: &Record) -> Line {
     ]
 }
 
-pub fn running(child: u32, started: u64) -> CommandState {
+pub(crate) fn running(child: u32, started: u64) -> CommandState {
     CommandState::Running { child, started }
 }
 
-pub fn exited(code: u8, started: u64, finished: u64) -> CommandState {
+pub(crate) fn exited(code: u8, started: u64, finished: u64) -> CommandState {
     CommandState::Finished {
         end: ProcessEnd::Exited(code),
         started,
@@ -57,7 +57,7 @@ pub fn exited(code: u8, started: u64, finished: u64) -> CommandState {
     }
 }
 
-pub fn killed(started: u64, finished: u64) -> CommandState {
+pub(crate) fn killed(started: u64, finished: u64) -> CommandState {
     CommandState::Finished {
         end: ProcessEnd::Signalled(9),
         started,
@@ -78,7 +78,7 @@ pub struct Row<'a> {
 }
 
 // A call that writes no record.
-pub fn quiet<'a>(call: Call, answer: Result<u32, Refusal>) -> Row<'a> {
+pub(crate) fn quiet<'a>(call: Call, answer: Result<u32, Refusal>) -> Row<'a> {
     Row {
         call,
         answer,
@@ -89,30 +89,30 @@ pub fn quiet<'a>(call: Call, answer: Result<u32, Refusal>) -> Row<'a> {
     }
 }
 
-pub fn step(kind: StepKind, time: u64) -> Call {
+pub(crate) fn step(kind: StepKind, time: u64) -> Call {
     Call::Step { kind, time }
 }
 
 // A send that is granted with this ticket.
-pub fn sent<'a>(send: Send, ticket: u32) -> Row<'a> {
+pub(crate) fn sent<'a>(send: Send, ticket: u32) -> Row<'a> {
     quiet(Call::Send(send), Ok(ticket))
 }
 
 // A send that is refused.
-pub fn refused<'a>(send: Send, refusal: Refusal) -> Row<'a> {
+pub(crate) fn refused<'a>(send: Send, refusal: Refusal) -> Row<'a> {
     quiet(Call::Send(send), Err(refusal))
 }
 
-pub fn looked<'a>(ticket: u64, answer: Result<u32, Refusal>) -> Row<'a> {
+pub(crate) fn looked<'a>(ticket: u64, answer: Result<u32, Refusal>) -> Row<'a> {
     quiet(Call::Look { ticket }, answer)
 }
 
-pub fn collected<'a>(ticket: u64, answer: Result<u32, Refusal>) -> Row<'a> {
+pub(crate) fn collected<'a>(ticket: u64, answer: Result<u32, Refusal>) -> Row<'a> {
     quiet(Call::Collect { ticket }, answer)
 }
 
 // A control step that takes a control.
-pub fn taken(time: u64, lines: &[Line], state: CommandState) -> Row<'_> {
+pub(crate) fn taken(time: u64, lines: &[Line], state: CommandState) -> Row<'_> {
     Row {
         lines,
         state: Some(state),
@@ -121,7 +121,7 @@ pub fn taken(time: u64, lines: &[Line], state: CommandState) -> Row<'_> {
 }
 
 // A control step that takes a control which orders a start.
-pub fn ordered(time: u64, lines: &[Line], state: CommandState) -> Row<'_> {
+pub(crate) fn ordered(time: u64, lines: &[Line], state: CommandState) -> Row<'_> {
     Row {
         ordered: 1,
         ..taken(time, lines, state)
@@ -129,7 +129,7 @@ pub fn ordered(time: u64, lines: &[Line], state: CommandState) -> Row<'_> {
 }
 
 // A control step that closes the job.
-pub fn closed(time: u64, lines: &[Line], state: CommandState) -> Row<'_> {
+pub(crate) fn closed(time: u64, lines: &[Line], state: CommandState) -> Row<'_> {
     Row {
         answer: Ok(2),
         ..taken(time, lines, state)
@@ -137,7 +137,7 @@ pub fn closed(time: u64, lines: &[Line], state: CommandState) -> Row<'_> {
 }
 
 // A control step that finds nothing to do.
-pub fn idle<'a>(time: u64, state: CommandState) -> Row<'a> {
+pub(crate) fn idle<'a>(time: u64, state: CommandState) -> Row<'a> {
     Row {
         state: Some(state),
         ..quiet(step(StepKind::Control, time), Ok(0))
@@ -145,7 +145,7 @@ pub fn idle<'a>(time: u64, state: CommandState) -> Row<'a> {
 }
 
 // A child step with this progress.
-pub fn polled(time: u64, progress: u32, lines: &[Line], state: CommandState) -> Row<'_> {
+pub(crate) fn polled(time: u64, progress: u32, lines: &[Line], state: CommandState) -> Row<'_> {
     Row {
         lines,
         state: Some(state),
@@ -180,7 +180,7 @@ impl Bench {
     }
 
     // Makes a call with this sheet.
-    pub fn make(&mut self, call: Call, sheet: &mut [Record]) -> Done {
+    pub(crate) fn make(&mut self, call: Call, sheet: &mut [Record]) -> Done {
         make(
             &mut self.job,
             &mut self.host,
@@ -191,7 +191,7 @@ impl Bench {
     }
 
     // Makes the call of the row, and compares what it does; places behind the records stay blank.
-    pub fn check(&mut self, rt: &impl Abort, row: &Row) {
+    pub(crate) fn check(&mut self, rt: &impl Abort, row: &Row) {
         let call = row.call;
         let mut sheet = [Record::BLANK; 8];
         let done = self.make(call, &mut sheet);
@@ -215,14 +215,14 @@ impl Bench {
         }
     }
 
-    pub fn check_all(&mut self, rt: &impl Abort, rows: &[Row]) {
+    pub(crate) fn check_all(&mut self, rt: &impl Abort, rows: &[Row]) {
         for row in rows {
             self.check(rt, row);
         }
     }
 
     // Sends, and takes what was sent in the step of the row; the ticket is raised by it, or not.
-    pub fn take(
+    pub(crate) fn take(
         &mut self,
         rt: &impl Abort,
         send: Send,
@@ -249,7 +249,7 @@ pub enum Before {
 }
 
 impl Before {
-    pub fn state(self) -> CommandState {
+    pub(crate) fn state(self) -> CommandState {
         match self {
             Before::Pending => CommandState::Pending,
             Before::Running => running(100, 10),
@@ -258,7 +258,12 @@ impl Before {
     }
 
     // A job in this state, on a host with these answers to what follows, and then `rest`.
-    pub fn bench(self, rt: &impl Abort, answers: &[i64], rest: i64) -> Result<Bench, Refusal> {
+    pub(crate) fn bench(
+        self,
+        rt: &impl Abort,
+        answers: &[i64],
+        rest: i64,
+    ) -> Result<Bench, Refusal> {
         let mut bench = match self {
             Before::Pending => Bench::new(&[], answers, rest)?,
             Before::Running => Bench::new(&[100], answers, rest)?,
@@ -281,7 +286,12 @@ impl Before {
     }
 
     // Checks the rows on such a job, on a host with these answers to them and no more.
-    pub fn check(self, rt: &impl Abort, answers: &[i64], rows: &[Row]) -> Result<(), Refusal> {
+    pub(crate) fn check(
+        self,
+        rt: &impl Abort,
+        answers: &[i64],
+        rows: &[Row],
+    ) -> Result<(), Refusal> {
         let mut bench = self.bench(rt, answers, USED_UP)?;
         bench.check_all(rt, rows);
         Ok(())
