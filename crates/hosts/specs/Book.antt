@@ -82,6 +82,10 @@ module _ (s : Sim) (begun : 100 ≤ s.next) (numbered : AreNumbered s.next s.chi
   on_faults : (n code : ℕ) (life : Life) → life_of n cs ≡ Some life → IsFault (fault code) → MayFault n roster (fault code)
   on_faults n code life e h = (h, λ o. cc (on n life e))
 
+  -- who has ended is on the roster, and ended as a process may
+  ended : (n : ℕ) (end : End) → life_of n cs ≡ Some (Ended end) → (on_roster n roster ≡ true) × IsEnd (process_end end)
+  ended n end e = (on n (Ended end) e, end_fits end (ends n cs end fit e))
+
   spawned : (program : ℕ) (options : SpawnOptions) (way time : ℕ) (b : Bool) → has_room s.next cs ≡ b → Rules (spawn program options way time) (if b then Ok s.next else Err (fault 11)) (if b then cs ++ child s.next Going ∷ [] else cs)
   spawned program options way time true e =
       let room : (length cs < 16) × (s.next < 2 ^ 31) = grind (arith, nat_tests) in
@@ -90,12 +94,12 @@ module _ (s : Sim) (begun : 100 ≤ s.next) (numbered : AreNumbered s.next s.chi
 
   polled : (n : ℕ) (o : Option Life) → life_of n cs ≡ o → Rules (poll n) (poll_answer o) (reported n o cs)
   polled n None e = (refl, off n)
-  polled n (Some (Ended end)) e = (numbers-without n cs, (on n (Ended end) e, end_fits end (ends n cs end fit e)))
+  polled n (Some (Ended end)) e = (numbers-without n cs, ended n end e)
   polled n (Some life) e = (refl, on n life e)
 
   waited : (n : ℕ) (o : Option Life) → life_of n cs ≡ o → Rules (wait n) (wait_answer o) (reported n o cs)
   waited n None e = (refl, off n)
-  waited n (Some (Ended end)) e = (numbers-without n cs, (on n (Ended end) e, end_fits end (ends n cs end fit e)))
+  waited n (Some (Ended end)) e = (numbers-without n cs, ended n end e)
   waited n (Some life) e = (refl, on_faults n 4 life e (omega arith, omega arith))
 
   -- what holds of a fit fault, and of Ok where the child is on the roster, holds of the answer to a signal
