@@ -1,23 +1,17 @@
 -- What a call of a run did, by its answer and the sheet after it.
-use Rattle.std.specs.Prelude.{ℕ, Bool, true, false, List, take, Ok, Err, Result}
+use Rattle.std.specs.Prelude.{ℕ, List, take, Ok, Err, Result}
 use Rattle.std.specs.Int.{from_bool}
 use Rattle.std.specs.List.{count_by}
-use Rattle.host.specs.declared.journal.CallKind.{CallKind}
-use Rattle.host.specs.declared.journal.CallKind.TheVariants.{Spawn}
 use Rattle.host.specs.declared.journal.Record.{Record}
 use Rattle.supervisor.specs.declared.errors.Refusal.{Refusal}
 use Rattle.supervisor.specs.declared.answers.Stepped.{Stepped}
 use Rattle.supervisor.specs.Answers.{progress_number}
+use Rattle.supervisor.specs.Laws.{is_spawn}
 use Rattle.drive.specs.declared.calls.Done.{Done}
-
--- a call is a spawn
-abbrev pub is_spawn_kind : CallKind → Bool
-is_spawn_kind Spawn = true
-is_spawn_kind call = false
 
 -- the spawns among records
 abbrev pub spawn_records : List Record → ℕ
-spawn_records rs = count_by (λ r. is_spawn_kind r.call) rs
+spawn_records rs = count_by (λ r. is_spawn r.call) rs
 
 abbrev pub done : Result ℕ Refusal → ℕ → ℕ → ℕ → Done
 done answer records tried ordered = record { answer = answer; records = records; tally = record { tried = tried; ordered = ordered } }
