@@ -1,5 +1,5 @@
--- The task of a job: its parts, its controls and its poll of the child, as interaction trees.
-use Rattle.std.specs.Prelude.{◌≡◌, ℕ, Bool, true, false, List, [], if◌then◌else◌, is_ok, Some, None, Ok, Err, Option, Result, ◌==◌, ⊤}
+-- The task of a job: its parts, its controls, its poll of the child and its pauses, as interaction trees.
+use Rattle.std.specs.Prelude.{◌≡◌, ℕ, Bool, true, false, not, ◌&&◌, ◌||◌, List, [], ◌∷◌, if◌then◌else◌, is_ok, Some, None, Ok, Err, Option, Result, ◌==◌, ⊤}
 use Rattle.host.specs.declared.fault.Fault.{Fault}
 use Rattle.std.specs.Result.{result_unwrap_or}
 use Rattle.host.specs.declared.command.SpawnOptions.{SpawnOptions}
@@ -234,6 +234,78 @@ poll_in s restart time t = done (t, Idle)
 -- `restart` says whether a restart is remembered
 abbrev pub poll_child : Bool → ℕ → TaskView → Course PollOutcome
 poll_child restart time t = poll_in t.state restart time t
+
+-- THE PAUSE STEP
+
+-- a grant is wanted if the command has grant_foreground and grouped, and not session
+abbrev pub wants_grant : SpawnOptions → Bool
+wants_grant o = o.grant_foreground && o.grouped && not o.session
+
+abbrev pub with_grant : Bool → TaskView → TaskView
+with_grant held t = record t { foreground = record t.foreground { grant = held } }
+
+abbrev pub paused_by : ℕ → TaskView → TaskView
+paused_by signal t = record t { foreground = record t.foreground { paused = Some signal } }
+
+abbrev pub with_pauses : List ℕ → TaskView → TaskView
+with_pauses signals t = record t { foreground = record t.foreground { pauses = signals } }
+
+-- Trying a grant: if the foreground is the terminal's own group's or the child's, it is acquired for the child's group, which has
+-- the child's number; a fault is ignored.
+
+abbrev pub is_ours : ℕ → ℕ → Option ℕ → Bool
+is_ours own child None = false
+is_ours own child (Some group) = group == own || group == child
+
+abbrev pub acquired : TaskView → Result ⊤ Fault → TaskView
+acquired t (Ok u) = with_grant true t
+acquired t (Err fault) = t
+
+abbrev pub acquire_if : Bool → ℕ → TaskView → Interaction TaskView
+acquire_if false child t = done t
+acquire_if true child t = bind (call (to_terminal (Calls.acquire child))) (λ a. done (acquired t a))
+
+abbrev pub try_grant : ℕ → ℕ → TaskView → Interaction TaskView
+try_grant own child t = bind (call (to_terminal Calls.owner)) (λ group. acquire_if (is_ours own child group) child t)
+
+abbrev pub try_grant_if : Bool → ℕ → ℕ → TaskView → Interaction TaskView
+try_grant_if false own child t = done t
+try_grant_if true own child t = try_grant own child t
+
+-- 18, the child goes on: it is paused no more, and gets a grant if one is wanted and none is held
+abbrev pub pause_ended : ℕ → ℕ → TaskView → Interaction TaskView
+pause_ended own child t = try_grant_if (wants_grant t.command.options && not t.foreground.grant) own child (not_paused t)
+
+-- 21 and 22, the child wants the terminal: if a grant is wanted and none is held, one is tried, and then the child is continued; it
+-- stays paused where that faults, and where no grant is wanted
+
+abbrev pub continued : ℕ → TaskView → Result ⊤ Fault → TaskView
+continued signal t (Ok u) = not_paused t
+continued signal t (Err fault) = paused_by signal t
+
+abbrev pub terminal_wanted : Bool → ℕ → ℕ → ℕ → TaskView → Interaction TaskView
+terminal_wanted false own child signal t = done (paused_by signal t)
+terminal_wanted true own child signal t = bind (try_grant_if (not t.foreground.grant) own child t) (λ t₁. bind (call (to_host (Calls.cont child))) (λ a. done (continued signal t₁ a)))
+
+-- any other, the child is paused: a held grant is released
+abbrev pub pause_begun : Bool → ℕ → TaskView → Interaction TaskView
+pause_begun false signal t = done (paused_by signal t)
+pause_begun true signal t = bind (call (to_terminal Calls.release)) (λ _. done (paused_by signal (with_grant false t)))
+
+abbrev pub take_pause : ℕ → ℕ → ℕ → TaskView → Interaction TaskView
+take_pause own child signal t =
+    if signal == 18 then pause_ended own child t
+    else if signal == 21 || signal == 22 then terminal_wanted (wants_grant t.command.options) own child signal t
+    else pause_begun t.foreground.grant signal t
+
+-- the oldest pause is taken while a child runs, and answered; none is where no child runs or no pause waits
+abbrev pub pause_in : CommandState → List ℕ → ℕ → TaskView → Course (Option ℕ)
+pause_in (Running child began) (signal ∷ rest) own t = bind (take_pause own child signal (with_pauses rest t)) (λ t₁. done (t₁, Some signal))
+pause_in s pauses own t = done (t, None)
+
+-- `own` is the terminal's own group
+abbrev pub pause : ℕ → TaskView → Course (Option ℕ)
+pause own t = pause_in t.state t.foreground.pauses own t
 
 -- WHAT HOLDS
 
