@@ -1,6 +1,7 @@
--- The options of a spawn and the number that a set of them is written as.
-use Rattle.std.specs.Prelude.{ℕ, ◌+◌, ◌/◌, ◌%◌, Bool, if◌then◌else◌, Some, None, Option, ◌==◌, nat_le}
+-- The options of a spawn, the number that a set of them is written as, and whether a command wants a grant.
+use Rattle.std.specs.Prelude.{ℕ, ◌+◌, ◌/◌, ◌%◌, Bool, if◌then◌else◌, not, ◌&&◌, Some, None, Option, ◌==◌, nat_le}
 use Rattle.host.specs.declared.command.SpawnOptions.{SpawnOptions}
+use Rattle.host.specs.declared.command.Command.{Command}
 
 -- a mark that is set counts its number
 abbrev pub mark : Bool → ℕ → ℕ
@@ -19,3 +20,7 @@ options_of sum =
     if nat_le sum 15
     then Some (record { grouped = has_mark sum 1; session = has_mark sum 2; reset_sigmask = has_mark sum 4; grant_foreground = has_mark sum 8 })
     else None
+
+-- a grant of the foreground is wanted if the command has grant_foreground and grouped, and not session
+abbrev pub wants_grant : Command → Bool
+wants_grant c = c.options.grant_foreground && c.options.grouped && not c.options.session

@@ -18,6 +18,17 @@ pub struct Command {
     pub options: SpawnOptions,
 }
 
+impl Command {
+    // Whether the foreground is to be granted to its child's group. The command's own options say so, also where a hook gave others
+    // for a spawn.
+    pub fn wants_grant(self) -> bool
+        ensures { result ≡ Options.wants_grant self }
+    {
+        let options = self.options;
+        options.grant_foreground && options.grouped && !options.session
+    }
+}
+
 // A number that is no sum of marks.
 #[derive(Clone, Copy, Debug, PartialEq, Eq)]
 pub struct NoSum {

@@ -7,6 +7,7 @@ use Rattle.host.specs.declared.command.Command.{Command}
 use Rattle.host.specs.declared.state.ProcessEnd.{ProcessEnd}
 use Rattle.host.specs.declared.state.CommandState.{CommandState}
 use Rattle.host.specs.declared.state.CommandState.TheVariants.{Pending, Running, Finished}
+use Rattle.host.specs.Command.{wants_grant}
 use Rattle.host.specs.State.{is_running, kept}
 use Rattle.host.specs.Calls as Calls
 use Rattle.host.specs.Calls.{to_host, to_terminal}
@@ -237,10 +238,6 @@ poll_child restart time t = poll_in t.state restart time t
 
 -- THE PAUSE STEP
 
--- a grant is wanted if the command has grant_foreground and grouped, and not session
-abbrev pub wants_grant : SpawnOptions → Bool
-wants_grant o = o.grant_foreground && o.grouped && not o.session
-
 abbrev pub with_grant : Bool → TaskView → TaskView
 with_grant held t = record t { foreground = record t.foreground { grant = held } }
 
@@ -258,8 +255,7 @@ is_ours own child None = false
 is_ours own child (Some group) = group == own || group == child
 
 abbrev pub acquired : TaskView → Result ⊤ Fault → TaskView
-acquired t (Ok u) = with_grant true t
-acquired t (Err fault) = t
+acquired t r = if is_ok r then with_grant true t else t
 
 abbrev pub acquire_if : Bool → ℕ → TaskView → Interaction TaskView
 acquire_if false child t = done t
@@ -274,7 +270,7 @@ try_grant_if true own child t = try_grant own child t
 
 -- 18, the child goes on: it is paused no more, and gets a grant if one is wanted and none is held
 abbrev pub pause_ended : ℕ → ℕ → TaskView → Interaction TaskView
-pause_ended own child t = try_grant_if (wants_grant t.command.options && not t.foreground.grant) own child (not_paused t)
+pause_ended own child t = try_grant_if (wants_grant t.command && not t.foreground.grant) own child (not_paused t)
 
 -- 21 and 22, the child wants the terminal: if a grant is wanted and none is held, one is tried, and then the child is continued; it
 -- stays paused where that faults, and where no grant is wanted
@@ -283,9 +279,12 @@ abbrev pub continued : ℕ → TaskView → Result ⊤ Fault → TaskView
 continued signal t (Ok u) = not_paused t
 continued signal t (Err fault) = paused_by signal t
 
+abbrev pub continue_child : ℕ → ℕ → TaskView → Interaction TaskView
+continue_child child signal t = bind (call (to_host (Calls.cont child))) (λ a. done (continued signal t a))
+
 abbrev pub terminal_wanted : Bool → ℕ → ℕ → ℕ → TaskView → Interaction TaskView
 terminal_wanted false own child signal t = done (paused_by signal t)
-terminal_wanted true own child signal t = bind (try_grant_if (not t.foreground.grant) own child t) (λ t₁. bind (call (to_host (Calls.cont child))) (λ a. done (continued signal t₁ a)))
+terminal_wanted true own child signal t = bind (try_grant_if (not t.foreground.grant) own child t) (continue_child child signal)
 
 -- any other, the child is paused: a held grant is released
 abbrev pub pause_begun : Bool → ℕ → TaskView → Interaction TaskView
@@ -295,7 +294,7 @@ pause_begun true signal t = bind (call (to_terminal Calls.release)) (λ _. done 
 abbrev pub take_pause : ℕ → ℕ → ℕ → TaskView → Interaction TaskView
 take_pause own child signal t =
     if signal == 18 then pause_ended own child t
-    else if signal == 21 || signal == 22 then terminal_wanted (wants_grant t.command.options) own child signal t
+    else if signal == 21 || signal == 22 then terminal_wanted (wants_grant t.command) own child signal t
     else pause_begun t.foreground.grant signal t
 
 -- the oldest pause is taken while a child runs, and answered; none is where no child runs or no pause waits

@@ -138,6 +138,25 @@ impl<H: Host, T: Terminal> Step<'_, H, T> {
         reply
     }
 
+    pub(crate) fn owner(&mut self) -> Option<u32>
+        requires { Room 1 self.old }
+        ensures { Asks H.Host T.Terminal (Calls.to_terminal Calls.owner) self.old result self.new }
+    {
+        let reply = self.terminal.owner();
+        let answer = reply.map_or(Answer::Nothing, Answer::Group);
+        self.record(CallKind::Owner, 0, 0, answer);
+        reply
+    }
+
+    pub(crate) fn acquire(&mut self, group: u32) -> Result<(), Fault>
+        requires { Room 1 self.old }
+        ensures { Asks H.Host T.Terminal (Calls.to_terminal (Calls.acquire group)) self.old result self.new }
+    {
+        let reply = self.terminal.acquire(group);
+        self.record(CallKind::Acquire, 0, group, reply.into());
+        reply
+    }
+
     pub(crate) fn release(&mut self)
         requires { Room 1 self.old }
         ensures { Asks H.Host T.Terminal (Calls.to_terminal Calls.release) self.old tt self.new }

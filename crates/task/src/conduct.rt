@@ -1,4 +1,4 @@
-// A control and a poll, with the host, the terminal and the sheet that their calls are recorded on.
+// A control, a poll and a pause, with the host, the terminal and the sheet that their calls are recorded on.
 ghost use Rattle.std.specs.Prelude.{ℕ};
 ghost use Rattle.host.specs.Interaction.{Interaction};
 ghost use Rattle.task.specs.Conducts.{Offered};
@@ -14,7 +14,7 @@ use host::journal::Record;
 use host::process::Host;
 use host::terminal::Terminal;
 
-// The places of a step's sheet, of which no control and no poll needs more.
+// The places of a step's sheet, of which no control, no poll and no pause needs more.
 pub const LEAST_PLACES: usize = 8;
 
 // What a task does in one step.
@@ -54,7 +54,23 @@ impl Work for Polling {
     }
 }
 
-// Task, host, terminal and sheet come one by one here and in the two below, since a caller may own them apart: a struct of loans
+// A pause; the terminal's own group is asked for before the step, since that is no call.
+#[derive(Drop)]
+struct Pausing {
+    own: u32,
+}
+
+impl Work for Pausing {
+    type Found = Option<u8>;
+
+    ghost tree = { λ pausing time. Tree.pause pausing.own };
+
+    fn run<H: Host, T: Terminal>(self, step: &mut Step<'_, H, T>) -> Option<u8> {
+        step.pause(self.own)
+    }
+}
+
+// Task, host, terminal and sheet come one by one here and in the three below, since a caller may own them apart: a struct of loans
 // would be made for each call, and each contract would have to say that the same ones are lent after it.
 
 // Does the work; what it ends with, and how many records were written. None where the sheet has fewer than 8 places.
@@ -83,7 +99,7 @@ fn conduct<W: Work + Drop, H: Host, T: Terminal>(
     Some((found, step.used))
 }
 
-// A control and a poll are a public function each: `Work`, whose `run` needs room on the sheet, stays private, since no public call
+// A control, a poll and a pause are a public function each: `Work`, whose `run` needs room on the sheet, stays private, since no public call
 // has conditions.
 
 // Carries a control out; its outcome, and how many records were written. None where the sheet has fewer than 8 places.
@@ -112,4 +128,19 @@ pub fn poll<H: Host, T: Terminal>(
     ensures { Offered H.Host T.Terminal (Tree.poll_child restart time (task_view task.old)) task.old (record { host = host.old; terminal = terminal.old }) sheet.old result task.new (record { host = host.new; terminal = terminal.new }) sheet.new }
 {
     conduct(task, host, terminal, sheet, Polling { restart }, time)
+}
+
+// Takes the oldest pause, while a child runs; its signal, and how many records were written. None where the sheet has fewer than 8
+// places.
+pub fn pause<H: Host, T: Terminal>(
+    task: &mut Task,
+    host: &mut H,
+    terminal: &mut T,
+    sheet: &mut [Record],
+    time: u64,
+) -> Option<(Option<u8>, usize)>
+    ensures { Offered H.Host T.Terminal (Tree.pause (T.Terminal.book terminal.old).own (task_view task.old)) task.old (record { host = host.old; terminal = terminal.old }) sheet.old result task.new (record { host = host.new; terminal = terminal.new }) sheet.new }
+{
+    let own = terminal.own_group();
+    conduct(task, host, terminal, sheet, Pausing { own }, time)
 }

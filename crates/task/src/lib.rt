@@ -1,4 +1,4 @@
-// The task of a job: its controls and its poll of the child, on a host and a terminal that are lent to it.
+// The task of a job: its controls, its poll of the child and its pauses, on a host and a terminal that are lent to it.
 #![tactic(auto)]
 
 mod asking;
@@ -6,6 +6,7 @@ pub mod conduct;
 mod controls;
 pub mod messages;
 mod parts;
+mod pausing;
 mod polling;
 mod step;
 pub mod task;
