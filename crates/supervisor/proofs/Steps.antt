@@ -14,14 +14,14 @@ use Rattle.supervisor.proofs.Starts.{step_few}
 
 module _ {H T : Type 0} {by_host : Host.Ghosts H} {by_terminal : Terminal.Ghosts T} where
   -- a step that is not refused is accepted, once its tree was run
-  pub accepted : HostKept by_host → TerminalKept by_terminal → (kind : StepKind) (time : ℕ) {a b : Moment H T} {s : Stepped} → may_step time (length a.sheet) (job_view a.job) ≡ Ok tt → Conducts by_host by_terminal (tree_of kind time (job_view a.job)) (world_at a) a.sheet (stepping b.job s) s.records (world_at b) b.sheet → Steps by_host by_terminal (tree_of kind) time a (Ok s) b
-  accepted host_keeps terminal_keeps kind time {a} {b} {s} may r =
-      let tree = tree_of kind time (job_view a.job) in (
+  pub accepted : HostKept by_host → TerminalKept by_terminal → (kind : StepKind) (own time : ℕ) {a b : Moment H T} {s : Stepped} → may_step time (length a.sheet) (job_view a.job) ≡ Ok tt → Conducts by_host by_terminal (tree_of kind own time (job_view a.job)) (world_at a) a.sheet (stepping b.job s) s.records (world_at b) b.sheet → Steps by_host by_terminal (tree_of kind own) time a (Ok s) b
+  accepted host_keeps terminal_keeps kind own time {a} {b} {s} may r =
+      let tree = tree_of kind own time (job_view a.job) in (
         may,
         record {
           conducts = r;
           host_book = host_goes by_host by_terminal host_keeps tree _ _ r.trace _ r.traces;
           terminal_book = terminal_goes by_host by_terminal terminal_keeps tree _ _ r.trace _ r.traces;
-          starts = few_tried (Answered by_host by_terminal) 1 tree _ _ r.trace _ (step_few kind time (job_view a.job)) r.traces;
+          starts = few_tried (Answered by_host by_terminal) 1 tree _ _ r.trace _ (step_few kind own time (job_view a.job)) r.traces;
         },
       )

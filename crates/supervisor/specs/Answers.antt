@@ -1,5 +1,5 @@
 -- What a step did, and the numbers of it.
-use Rattle.std.specs.Prelude.{ℕ, if◌then◌else◌}
+use Rattle.std.specs.Prelude.{ℕ, if◌then◌else◌, is_some, Option}
 use Rattle.task.specs.Task.{closes}
 use Rattle.task.specs.declared.task.Outcome.{Outcome}
 use Rattle.task.specs.declared.task.PollOutcome.{PollOutcome}
@@ -19,3 +19,7 @@ control_progress o = if closes o then Closed else Handled
 abbrev pub poll_progress : PollOutcome → Progress
 poll_progress Polls.Idle = Idle
 poll_progress outcome = Handled
+
+-- a pause step is handled if it took a signal
+abbrev pub pause_progress : Option ℕ → Progress
+pause_progress taken = if is_some taken then Handled else Idle

@@ -1,5 +1,5 @@
--- The job: what it holds, how it is made, its sends, looks and collects, and its steps.
-use Rattle.std.specs.Prelude.{ℕ, ◌^◌, Bool, true, false, if◌then◌else◌, not, ◌&&◌, [], is_some, Some, None, Ok, Err, Option, Result, ◌==◌, nat_le, nat_lt, ⊤}
+-- The job: what it holds, how it is made, its sends, looks and collects, its pauses, and its steps.
+use Rattle.std.specs.Prelude.{ℕ, ◌^◌, Bool, true, false, if◌then◌else◌, not, ◌&&◌, ◌||◌, [], ◌∷◌, ◌++◌, length, is_some, Some, None, Ok, Err, Option, Result, ◌==◌, nat_le, nat_lt, ⊤}
 use Rattle.host.specs.declared.command.SpawnOptions.{SpawnOptions}
 use Rattle.host.specs.declared.command.Command.{Command}
 use Rattle.host.specs.declared.state.CommandState.TheVariants.{Pending}
@@ -10,7 +10,7 @@ use Rattle.tickets.specs.declared.flag.Mark.{Mark}
 use Rattle.tickets.specs.declared.flag.Mark.TheVariants.{Held, Raised}
 use Rattle.tickets.specs.Tickets.{found}
 use Rattle.supervisor.specs.declared.errors.Refusal.{Refusal}
-use Rattle.supervisor.specs.declared.errors.Refusal.TheVariants.{Closed, Sheet, Clock, Number, Unknown, Waiting}
+use Rattle.supervisor.specs.declared.errors.Refusal.TheVariants.{Closed, Sheet, Clock, Signal, Number, Unwatched, Pauses, Unknown, Waiting}
 use Rattle.supervisor.specs.declared.answers.Progress.{Progress}
 use Rattle.supervisor.specs.declared.answers.StepKind as StepKind
 use Rattle.supervisor.specs.declared.answers.Progress.TheVariants.{Idle}
@@ -18,8 +18,9 @@ use Rattle.supervisor.specs.declared.mailbox.Received.{Received}
 use Rattle.supervisor.specs.declared.sends.Send.{Send}
 use Rattle.task.specs.declared.task.Outcome.{Outcome}
 use Rattle.task.specs.declared.task.PollOutcome.{PollOutcome}
-use Rattle.supervisor.specs.Answers.{control_progress, poll_progress}
-use Rattle.task.specs.Task.{TaskView, closes, control, poll_child}
+use Rattle.supervisor.specs.Answers.{control_progress, poll_progress, pause_progress}
+use Rattle.task.specs.Task as Tree
+use Rattle.task.specs.Task.{TaskView, closes, control, poll_child, with_pauses}
 use Rattle.supervisor.specs.Mailbox as Mail
 use Rattle.supervisor.specs.Mailbox.{MailboxView, Taken, take, orders_start, settle, after_poll}
 use Rattle.supervisor.specs.Sends.{priority_of, controls_of}
@@ -94,6 +95,29 @@ collected (Err r) ticket v = (v, Err r)
 abbrev pub collect : ℕ → JobView → JobView × Result ⊤ Refusal
 collect ticket v = if ticket == 0 then (v, Ok tt) else collected (looked v.closed (found ticket v.mailbox.tickets.table)) ticket v
 
+-- PAUSES
+
+-- a signal that stopped or continued the child may be added, or is refused: on a closed job, for a number that is no signal, while
+-- pauses are not watched for, or while 32 wait
+abbrev pub may_pause : ℕ → JobView → Result ⊤ Refusal
+may_pause signal v =
+    if v.closed then Err Closed
+    else if signal == 0 || nat_lt 31 signal then Err Signal
+    else if not v.task.foreground.watch then Err Unwatched
+    else if nat_lt (length v.task.foreground.pauses) 32 then Ok tt
+    else Err Pauses
+
+-- it waits behind the others
+abbrev pub with_pause : ℕ → JobView → JobView
+with_pause signal v = record v { task = with_pauses (v.task.foreground.pauses ++ signal ∷ []) v.task }
+
+abbrev pub paused : Result ⊤ Refusal → ℕ → JobView → JobView × Result ⊤ Refusal
+paused (Ok u) signal v = (with_pause signal v, Ok tt)
+paused (Err r) signal v = (v, Err r)
+
+abbrev pub pause : ℕ → JobView → JobView × Result ⊤ Refusal
+pause signal v = paused (may_pause signal v) signal v
+
 -- STEPS
 
 -- a step at this time, with a sheet of so many places, may be made, or is refused
@@ -137,6 +161,15 @@ watched time v x = record {
 abbrev pub child_step : ℕ → JobView → Interaction Stepping
 child_step time v = bind (poll_child (is_some (memory v.mailbox.timer)) time v.task) (λ x. done (watched time v x))
 
-abbrev pub tree_of : StepKind.StepKind → ℕ → JobView → Interaction Stepping
-tree_of StepKind.TheVariants.Control = control_step
-tree_of StepKind.TheVariants.Child = child_step
+abbrev pub pause_taken : ℕ → JobView → TaskView × Option ℕ → Stepping
+pause_taken time v x = record { view = record v { task = x.0; clock = time }; progress = pause_progress x.1; ordered = false }
+
+-- a pause step takes the oldest pause, while a child runs; `own` is the terminal's own group
+abbrev pub pause_step : ℕ → ℕ → JobView → Interaction Stepping
+pause_step own time v = bind (Tree.pause own v.task) (λ x. done (pause_taken time v x))
+
+-- a step of each kind, over a terminal with that own group
+abbrev pub tree_of : StepKind.StepKind → ℕ → ℕ → JobView → Interaction Stepping
+tree_of StepKind.TheVariants.Control own = control_step
+tree_of StepKind.TheVariants.Child own = child_step
+tree_of StepKind.TheVariants.Pause own = pause_step own

@@ -1,15 +1,16 @@
-// The two kinds of step, and what a step answers.
+// The three kinds of step, and what a step answers.
 ghost use Rattle.std.specs.Prelude.{◌≡◌};
-ghost use Rattle.supervisor.specs.Answers.{control_progress, poll_progress, progress_number};
+ghost use Rattle.supervisor.specs.Answers.{control_progress, pause_progress, poll_progress, progress_number};
 
 use task::task::{Outcome, PollOutcome};
 
-// A control step carries out one control, a child step polls the child. Which one is made is data, and no closure: lists of calls
-// and scripts name it.
+// A control step carries out one control, a child step polls the child, a pause step takes one pause. Which one is made is data, and
+// no closure: lists of calls and scripts name it.
 #[derive(Clone, Copy, Debug, PartialEq, Eq)]
 pub enum StepKind {
     Control,
     Child,
+    Pause,
 }
 
 // What a step did: nothing, something, or it closed the job.
@@ -18,6 +19,18 @@ pub enum Progress {
     Idle = 0,
     Handled = 1,
     Closed = 2,
+}
+
+impl Progress {
+    // What a pause step comes to, by the signal that it took.
+    pub(crate) fn of_pause(taken: Option<u8>) -> Progress
+        ensures { result ≡ pause_progress taken }
+    {
+        match taken {
+            Some(_) => Progress::Handled,
+            None => Progress::Idle,
+        }
+    }
 }
 
 // The number that it is written with; `as` casts no type parameter, so each enum has its own impl.

@@ -27,5 +27,6 @@ pub struct Job {
 
 mod looking;
 mod making;
+mod pauses;
 mod sends;
 mod steps;

@@ -92,7 +92,7 @@ impl From<Send> for Controls {
 }
 
 // A signal is at most 31.
-const MOST_SIGNAL: u8 = 31;
+pub(crate) const MOST_SIGNAL: u8 = 31;
 
 // A grace is at most a day.
 const MOST_GRACE: u32 = 86_400_000;

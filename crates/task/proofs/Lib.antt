@@ -2,6 +2,7 @@
 pub mod Always
 pub mod Courses
 pub mod Grants
+pub mod Pauses
 pub mod Performing
 pub mod Reporting
 pub mod Running

@@ -1,4 +1,4 @@
-// The steps of a job: a control step carries out one control, a child step polls the child.
+// The steps of a job: a control step carries out one control, a child step polls the child, a pause step takes one pause.
 ghost use Rattle.std.specs.Prelude.{◌≡◌, length};
 ghost use Rattle.supervisor.specs.Job as Spec;
 ghost use Rattle.supervisor.specs.Laws.{Accepting, Continues, NormalWaits, RaisedAtEnd, TakenWhenDue};
@@ -35,7 +35,7 @@ impl Job {
     }
 
     // Host, terminal and sheet come one by one, since a caller may own them apart: a struct of loans would be made for each step, and
-    // each contract would have to say that the same ones are lent after it. The two steps are no cases of one function: what is done
+    // each contract would have to say that the same ones are lent after it. The three steps are no cases of one function: what is done
     // before and after the task's work differs, and the work is `conduct`.
 
     // Takes the next control and carries it out. The calls that are made are recorded on the sheet, from its first place on.
@@ -114,7 +114,31 @@ impl Job {
         })
     }
 
-    // A step of either kind.
+    // Takes the oldest pause, if one waits and a child runs.
+    pub fn pause_step<H: Host, T: Terminal>(
+        &mut self,
+        host: &mut H,
+        terminal: &mut T,
+        sheet: &mut [Record],
+        time: u64,
+    ) -> Result<Stepped, Refusal>
+        ensures { Steps H.Host T.Terminal (Spec.pause_step (T.Terminal.book terminal.old).own) time (moment self.old host.old terminal.old sheet.old) result (moment self.new host.new terminal.new sheet.new) }
+    {
+        self.may_step(time, sheet.len())?;
+        self.clock = time;
+        let Some((taken, records)) = conduct::pause(&mut self.task, host, terminal, sheet, time)
+        else {
+            // As in a control step.
+            unreachable!()
+        };
+        Ok(Stepped {
+            progress: Progress::of_pause(taken),
+            records,
+            ordered: false,
+        })
+    }
+
+    // A step of any kind.
     pub fn step<H: Host, T: Terminal>(
         &mut self,
         kind: StepKind,
@@ -123,11 +147,12 @@ impl Job {
         sheet: &mut [Record],
         time: u64,
     ) -> Result<Stepped, Refusal>
-        ensures { Steps H.Host T.Terminal (Spec.tree_of kind) time (moment self.old host.old terminal.old sheet.old) result (moment self.new host.new terminal.new sheet.new) }
+        ensures { Steps H.Host T.Terminal (Spec.tree_of kind (T.Terminal.book terminal.old).own) time (moment self.old host.old terminal.old sheet.old) result (moment self.new host.new terminal.new sheet.new) }
     {
         match kind {
             StepKind::Control => self.control_step(host, terminal, sheet, time),
             StepKind::Child => self.child_step(host, terminal, sheet, time),
+            StepKind::Pause => self.pause_step(host, terminal, sheet, time),
         }
     }
 }

@@ -34,7 +34,7 @@ pub returns-clause-stepped : goal.returns-clause-stepped
 returns-clause-stepped g c =
     let v = job_view c.args.self.now in
     let restart = is_some (memory v.mailbox.timer) in
-    accepted g.met.H.Host.keeps g.met.T.Terminal.keeps Child c.args.time (sym c.in_ok-may_step.ensures)
+    accepted g.met.H.Host.keeps g.met.T.Terminal.keeps Child 0 c.args.time (sym c.in_ok-may_step.ensures)
     (then_done (poll_child restart c.args.time v.task) (watched c.args.time v) (cc) (at_value (λ (b : Bool). poll_child b c.args.time v.task) (c.is_some-restart.ensures ∙ ap is_some c.memory.ensures) c.in-Some.ensures.1))
 
 pub returns-clause-ended : goal.returns-clause-ended

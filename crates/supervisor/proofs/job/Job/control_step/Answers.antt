@@ -47,13 +47,13 @@ invariant_of-self-2-clause-granted g c = (ends g c).0
 pub returns-in_default-clause-stepped : goal.returns-in_default-clause-stepped
 returns-in_default-clause-stepped g c =
     let j = c.args.self.now in
-    accepted g.met.H.Host.keeps g.met.T.Terminal.keeps Control c.args.time (sym c.in_ok-may_step.ensures) (rw c.in_default.ensures.taken (silent (cc (c.in_default.ensures.idle refl))))
+    accepted g.met.H.Host.keeps g.met.T.Terminal.keeps Control 0 c.args.time (sym c.in_ok-may_step.ensures) (rw c.in_default.ensures.taken (silent (cc (c.in_default.ensures.idle refl))))
 
 pub returns-clause-stepped : goal.returns-clause-stepped
 returns-clause-stepped g c =
     let v = job_view c.args.self.now in
     let r = c.in-Some.received in
-    accepted g.met.H.Host.keeps g.met.T.Terminal.keeps Control c.args.time (sym c.in_ok-may_step.ensures)
+    accepted g.met.H.Host.keeps g.met.T.Terminal.keeps Control 0 c.args.time (sym c.in_ok-may_step.ensures)
     (rw c.in-Some.ensures.taken (then_done (control r.message.control c.args.time v.task) (carried c.args.time r (mailbox_view c.receive.new.self)) (cc) c.in-Some-control.ensures.1))
 
 pub returns-in_default-clause-deadline : goal.returns-in_default-clause-deadline
