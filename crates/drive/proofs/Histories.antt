@@ -35,12 +35,12 @@ written_more rs xs i y e l = grind (arith, common_steps, drop_more xs i (Ok 0) l
 module _ {H T : Type 0} (by_host : Host.Ghosts H) (by_terminal : Terminal.Ghosts T) where
   -- a call tries at most one start, and takes at most one order
   makes_few : (c : Call) (a : Moment H T) (d : Done) (b : Moment H T) → Makes by_host by_terminal c a d b → (d.tally.tried ≤ 1) × (d.tally.ordered ≤ 1)
-  makes_few (Step kind time) a d b r = rw r.does (step_few by_host by_terminal (tree_of kind) time a b r.answer r.step)
+  makes_few (Step kind time) a d b r = rw r.does (step_few by_host by_terminal (tree_of kind (by_terminal.book a.terminal).own) time a b r.answer r.step)
   makes_few c a d b r = grind arith
 
   -- and the host's count of spawns grows by the starts tried
   makes-spawns : (c : Call) (a : Moment H T) (d : Done) (b : Moment H T) → Makes by_host by_terminal c a d b → (by_host.book b.host).spawns % 2 ^ 64 ≡ ((by_host.book a.host).spawns + d.tally.tried) % 2 ^ 64
-  makes-spawns (Step kind time) a d b r = rw r.does (step-spawns by_host by_terminal (tree_of kind) time a b r.answer r.step)
+  makes-spawns (Step kind time) a d b r = rw r.does (step-spawns by_host by_terminal (tree_of kind (by_terminal.book a.terminal).own) time a b r.answer r.step)
   makes-spawns c a d b r = grind arith
 
   linked-spawns : (cs : List Call) (a : Moment H T) (ts : List (Turn (Moment H T))) (b : Moment H T) → Linked (Makes by_host by_terminal) cs a ts b → (by_host.book b.host).spawns % 2 ^ 64 ≡ ((by_host.book a.host).spawns + tried_in ts) % 2 ^ 64

@@ -8,10 +8,10 @@ use Rattle.host.specs.Interaction.{Interaction}
 use Rattle.supervisor.specs.declared.errors.Refusal.{Refusal}
 use Rattle.supervisor.specs.declared.errors.Refusal.TheVariants.{Unknown}
 use Rattle.supervisor.specs.declared.answers.Stepped.{Stepped}
-use Rattle.supervisor.specs.Job.{JobView, Stepping, send, look, collect, tree_of}
+use Rattle.supervisor.specs.Job.{JobView, Stepping, send, look, collect, pause, tree_of}
 use Rattle.supervisor.specs.Steps.{Answers, Moment, job_view, Steps}
 use Rattle.drive.specs.declared.calls.Call.{Call}
-use Rattle.drive.specs.declared.calls.Call.TheVariants.{Send, Step, Look, Collect}
+use Rattle.drive.specs.declared.calls.Call.TheVariants.{Send, Step, Pause, Look, Collect}
 use Rattle.drive.specs.declared.calls.Done.{Done}
 use Rattle.drive.specs.Answers.{only_answered, step_done}
 
@@ -24,10 +24,14 @@ abbrev pub looked : Result ℕ Refusal → JobView → Result ℕ Refusal
 looked (Ok ticket) v = result_map_both from_bool (λ refusal. refusal) (look ticket v)
 looked (Err refusal) v = Err refusal
 
--- its collect; one that is granted answers 0
+-- 0 answers what is granted with no value of its own
 abbrev pub with_zero : JobView × Result ⊤ Refusal → JobView × Result ℕ Refusal
 with_zero x = (x.0, result_map_both (λ _. 0) (λ refusal. refusal) x.1)
 
+abbrev pub paused : ℕ → JobView → JobView × Result ℕ Refusal
+paused signal v = with_zero (pause signal v)
+
+-- the collect of a ticket, if it is known
 abbrev pub collected : Result ℕ Refusal → JobView → JobView × Result ℕ Refusal
 collected (Ok ticket) v = with_zero (collect ticket v)
 collected (Err refusal) v = (v, Err refusal)
@@ -50,6 +54,7 @@ module _ {H T : Type 0} (by_host : Host.Ghosts H) (by_terminal : Terminal.Ghosts
   -- the call c leads from the moment a to the moment b and does d
   abbrev pub Makes : Call → Moment H T → Done → Moment H T → Type 0
   Makes (Send s) a d b = Quiet (send s) a d b
-  Makes (Step kind time) a d b = Moved (tree_of kind) time a d b
+  Makes (Step kind time) a d b = Moved (tree_of kind (by_terminal.book a.terminal).own) time a d b
+  Makes (Pause signal) a d b = Quiet (paused signal) a d b
   Makes (Look ticket) a d b = (d ≡ only_answered (looked (known ticket) (job_view a.job))) × (b ≡ a)
   Makes (Collect ticket) a d b = Quiet (collected (known ticket)) a d b

@@ -6,11 +6,12 @@ use supervisor::answers::StepKind;
 use supervisor::errors::Refusal;
 use supervisor::sends::Send;
 
-// A call on a job. A step has its time, a look and a collect the number of their ticket, which may be any.
+// A call on a job. A step has its time, a pause its signal, a look and a collect the number of their ticket, which may be any.
 #[derive(Clone, Copy, Debug, PartialEq, Eq)]
 pub enum Call {
     Send(Send),
     Step { kind: StepKind, time: u64 },
+    Pause { signal: u8 },
     Look { ticket: u64 },
     Collect { ticket: u64 },
 }

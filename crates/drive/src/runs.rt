@@ -52,6 +52,13 @@ pub fn known(number: u64) -> Result<u32, Refusal>
     u32::try_from(number).map_err(|_| Refusal::Unknown)
 }
 
+fn pause(job: &mut Job, signal: u8) -> Result<u32, Refusal>
+    ensures { Steps.Answers (Calls.paused signal) job.old result job.new }
+{
+    job.pause(signal)?;
+    Ok(0)
+}
+
 fn look(job: &Job, ticket: u64) -> Result<u32, Refusal>
     ensures { result ≡ Calls.looked (Calls.known ticket) (job_view job.now) }
 {
@@ -81,6 +88,7 @@ pub fn make<H: Host, T: Terminal>(
             let answer = job.step(kind, host, terminal, sheet, time);
             stepped(answer, sheet)
         }
+        Call::Pause { signal } => pause(job, signal).into(),
         Call::Look { ticket } => look(job, ticket).into(),
         Call::Collect { ticket } => collect(job, ticket).into(),
     }
