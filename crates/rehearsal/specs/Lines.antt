@@ -7,7 +7,7 @@ use Rattle.drive.specs.declared.calls.Call as Calls
 use Rattle.supervisor.specs.declared.sends.Send.{Send}
 use Rattle.supervisor.specs.declared.sends.Send as Sends
 use Rattle.supervisor.specs.declared.answers.StepKind.{StepKind}
-use Rattle.supervisor.specs.declared.answers.StepKind.TheVariants.{Child, Control}
+use Rattle.supervisor.specs.declared.answers.StepKind.TheVariants.{Child, Pause, Control}
 use Rattle.rehearsal.specs.declared.line.Line.{Line}
 use Rattle.rehearsal.specs.declared.line.Line as Lines
 use Rattle.rehearsal.specs.Numbers.{number_of, numbers_of}
@@ -17,6 +17,7 @@ use Rattle.rehearsal.specs.Parts.{parted}
 abbrev pub call_letter : Call → ℕ
 call_letter (Calls.TheVariants.Send send) = 99
 call_letter (Calls.TheVariants.Step kind time) = 115
+call_letter (Calls.TheVariants.Pause signal) = 112
 call_letter (Calls.TheVariants.Look ticket) = 108
 call_letter (Calls.TheVariants.Collect ticket) = 103
 
@@ -87,11 +88,15 @@ exit_line p = if nat_le p.1 255 then Some (Lines.TheVariants.Exit p.0 p.1) else 
 abbrev pub stop_line : ℕ × ℕ → Option Line
 stop_line p = if nat_le 19 p.1 && nat_le p.1 22 then Some (Lines.TheVariants.Stop p.0) else None
 
--- which step a letter names
+-- which step a letter names: e, p or c
 abbrev pub step_kind : ℕ → Option StepKind
-step_kind letter = if letter == 101 then Some Child else (if letter == 99 then Some Control else None)
+step_kind letter =
+    if letter == 101 then Some Child
+    else if letter == 112 then Some Pause
+    else if letter == 99 then Some Control
+    else None
 
--- s: e or c, and a time
+-- s: the letter of a step, and a time
 abbrev pub step_call : ℕ × List ℕ → Option Call
 step_call p = option_and_then (λ kind. option_map (Calls.TheVariants.Step kind) (number_of p.1)) (step_kind p.0)
 
@@ -107,6 +112,7 @@ abbrev pub call_by : ℕ → List ℕ → Option Call
 call_by letter fields =
     if letter == 99 then option_map Calls.TheVariants.Send (send_of fields)
     else if letter == 115 then option_and_then step_call (lettered fields)
+    else if letter == 112 then option_map (λ n. Calls.TheVariants.Pause (signal_of n)) (number_of fields)
     else if letter == 108 then option_map Calls.TheVariants.Look (number_of fields)
     else if letter == 103 then option_map Calls.TheVariants.Collect (number_of fields)
     else None

@@ -29,6 +29,7 @@ fn call_letter(call: Call) -> char
     match call {
         Call::Send(_) => 'c',
         Call::Step { .. } => 's',
+        Call::Pause { .. } => 'p',
         Call::Look { .. } => 'l',
         Call::Collect { .. } => 'g',
     }
@@ -126,6 +127,7 @@ fn step_kind(letter: u8) -> Option<StepKind>
 {
     match letter {
         b'e' => Some(StepKind::Child),
+        b'p' => Some(StepKind::Pause),
         b'c' => Some(StepKind::Control),
         _ => None,
     }
@@ -176,6 +178,11 @@ fn read_call(letter: u8, fields: &[u8]) -> Option<Call>
     match letter {
         b'c' => read_send(fields).map(Call::Send),
         b's' => read_step(fields),
+        b'p' => number(fields).map(|signal| {
+            Call::Pause {
+                signal: signal_of(signal),
+            }
+        }),
         b'l' => number(fields).map(|ticket| Call::Look { ticket }),
         b'g' => number(fields).map(|ticket| Call::Collect { ticket }),
         _ => None,

@@ -40,6 +40,8 @@ fn with_a_faulty_line_nothing_runs(rt: HostRuntime) -> Result<(), Fail> {
     prints(&rt, b"l\t9223372036854775808\n", "13\t1\n")?;
     prints(&rt, b"w\tx\t100\t256\n", "13\t1\n")?;
     prints(&rt, b"w\tz\t100\t23\n", "13\t1\n")?;
+    prints(&rt, b"p\t1\np\t01\n", "13\t2\n")?;
+    prints(&rt, b"s\tp\t1\ns\tp\n", "13\t2\n")?;
     prints(&rt, b"c\tstart\t\n\n", "13\t1\n")
 }
 
@@ -190,5 +192,23 @@ fn a_hopper_that_outlasts_its_grace_is_started_once_more(rt: HostRuntime) -> Res
         b"m\t0\t32768\nc\tstart\ns\tc\t1000\nl\t1\nc\ttry_restart_with_signal\t15\t5000\ns\tc\t2000\nl\t2\nc\tto_wait\ns\tc\t2500\ns\te\t3000\ns\tc\t6999\nl\t2\ns\tc\t7000\nl\t2\nl\t3\nw\tx\t100\t0\nw\tx\t101\t0\ns\te\t8000\ns\te\t8500\ns\tc\t9000\ng\t2\nl\t2\n";
     let text =
         "1\tm\t0\t0\n2\tc\t0\t1\n3\ts\t0\t1\nj\t1\t0\t0\t100\n4\tl\t0\t1\n5\tc\t0\t2\n6\ts\t0\t1\nj\t5\t100\t15\t0\n7\tl\t0\t0\n8\tc\t0\t3\n9\ts\t0\t1\n10\ts\t0\t0\nj\t2\t100\t0\t0\n11\ts\t0\t0\n12\tl\t0\t0\n13\ts\t0\t1\nj\t4\t100\t0\t0\nj\t3\t100\t0\t2009\nj\t1\t0\t0\t101\n14\tl\t0\t1\n15\tl\t0\t1\n16\tw\t11\t0\n17\tw\t0\t0\n18\ts\t0\t1\nj\t2\t101\t0\t1000\n19\ts\t0\t0\n20\ts\t0\t0\n21\tg\t0\t0\n22\tl\t11\t0\n";
+    prints(&rt, script, text)
+}
+
+#[test]
+fn a_paused_child_is_continued_where_a_grant_is_wanted(rt: HostRuntime) -> Result<(), Fail> {
+    let script =
+        b"m\t9\t0\np\t19\nc\tstart\ns\tc\t10\ns\tp\t11\np\t21\np\t18\np\t20\ns\tp\t12\ns\tp\t13\ns\tp\t13\ns\tp\t13\nc\tstop\ns\tc\t14\np\t18\ns\tp\t15\n";
+    let text =
+        "1\tm\t0\t0\n2\tp\t9\t0\n3\tc\t0\t1\n4\ts\t0\t1\nj\t1\t0\t0\t100\n5\ts\t0\t0\n6\tp\t0\t0\n7\tp\t0\t0\n8\tp\t0\t0\n9\ts\t0\t1\nj\t11\t0\t0\t0\nj\t6\t100\t0\t0\n10\ts\t0\t1\nj\t11\t0\t0\t0\n11\ts\t0\t1\n12\ts\t0\t0\n13\tc\t0\t2\n14\ts\t0\t1\nj\t6\t100\t0\t0\nj\t4\t100\t0\t0\nj\t3\t100\t0\t2009\n15\tp\t9\t0\n16\ts\t0\t0\n";
+    prints(&rt, script, text)
+}
+
+#[test]
+fn a_pause_is_refused_for_its_signal_before_the_watch(rt: HostRuntime) -> Result<(), Fail> {
+    let script =
+        b"m\t8\t0\np\t0\np\t32\np\t256\np\t9223372036854775807\np\t31\nc\tstart\ns\tc\t1\np\t0\np\t31\np\t32\ns\tp\t0\nc\tdelete\ns\tc\t1\ns\tc\t1\np\t0\ns\tp\t1\n";
+    let text =
+        "1\tm\t0\t0\n2\tp\t4\t0\n3\tp\t4\t0\n4\tp\t4\t0\n5\tp\t4\t0\n6\tp\t9\t0\n7\tc\t0\t1\n8\ts\t0\t1\nj\t1\t0\t0\t100\n9\tp\t4\t0\n10\tp\t0\t0\n11\tp\t4\t0\n12\ts\t3\t0\n13\tc\t0\t3\n14\ts\t0\t1\nj\t4\t100\t0\t0\nj\t3\t100\t0\t2009\n15\ts\t0\t2\n16\tp\t1\t0\n17\ts\t1\t0\n";
     prints(&rt, script, text)
 }
