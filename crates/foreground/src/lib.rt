@@ -2,3 +2,9 @@
 #![tactic(auto)]
 
 pub mod absent;
+mod console;
+mod device;
+pub mod group;
+pub mod process;
+pub mod session;
+pub mod simulated;

@@ -1,0 +1,64 @@
+-- The simulated terminal: what each call is answered, and what the terminal holds after it.
+use Rattle.std.specs.Prelude.{◌≡◌, ℕ, if◌then◌else◌, replicate, is_some, Some, None, Option, Ok, Err, Result, ⊤}
+use Rattle.host.specs.Fault.{fault}
+use Rattle.host.specs.declared.fault.Fault.{Fault}
+use Rattle.host.specs.Calls.{TerminalCall, owner, acquire, release, TerminalReply}
+use Rattle.host.specs.Books.{TerminalBook, next_count}
+use Rattle.foreground.specs.declared.process.Handling.TheVariants.{Default}
+use Rattle.foreground.specs.declared.simulated.SimulatedTerminal.{SimulatedTerminal}
+use Rattle.foreground.specs.View.{tty}
+use Rattle.foreground.specs.Posix.{Tty, tcgetpgrp, tcgetattr}
+use Rattle.foreground.specs.Moves.{given, restored, taken_back}
+
+-- the terminal with the process that calls on it, the settings that the open grant will restore, if one is open, and how many
+-- calls were served, modulo 2^64
+pub record Sim : Type 0 where
+  pub tty : Tty
+  pub saved : Option ℕ
+  pub served : ℕ
+
+-- what a simulated terminal holds
+abbrev pub view : SimulatedTerminal → Sim
+view t = record { tty = tty t.console; saved = t.saved; served = t.served.0 }
+
+-- a new one: nobody has its foreground, and no group is in its session
+abbrev pub fresh : ℕ → Sim
+fresh own = record { tty = record { own = own; handling = Default; foreground = None; settings = 0; groups = replicate 16 None }; saved = None; served = 0 }
+
+-- its book: a grant is open as long as settings are saved
+
+abbrev pub grants : Option ℕ → ℕ
+grants None = 0
+grants (Some settings) = 1
+
+abbrev pub book_of : Sim → TerminalBook
+book_of s = record { own = s.tty.own; grants = grants s.saved; served = s.served }
+
+-- ACQUIRE: a group was given the foreground, and the settings of before are saved; where that failed, no grant is open
+
+abbrev pub opened : ℕ → Sim → Result ⊤ Fault × Tty → Result ⊤ Fault × Sim
+opened settings s (Ok u, t) = (Ok tt, record s { tty = t; saved = Some settings })
+opened settings s (Err f, t) = (Err f, record s { tty = t })
+
+abbrev pub acquired : ℕ → Sim → Result ⊤ Fault × Sim
+acquired group s = if is_some s.saved then (Err (fault 16), s) else opened (tcgetattr s.tty) s (given group s.tty)
+
+-- RELEASE: with a grant open, the foreground is taken back and the saved settings are restored
+
+abbrev pub released : Option ℕ → Sim → Sim
+released None s = s
+released (Some settings) s = record s { tty = restored settings (taken_back s.tty); saved = None }
+
+-- what a call is answered and leaves, apart from the count
+
+abbrev pub done : Sim → (c : TerminalCall) → TerminalReply c × Sim
+done s owner = (tcgetpgrp s.tty, s)
+done s (acquire group) = acquired group s
+done s release = (tt, released s.saved s)
+
+abbrev pub counted : Sim → Sim
+counted s = record s { served = next_count s.served }
+
+-- a call of a terminal was answered so, and left the terminal so
+abbrev pub Did : SimulatedTerminal → (c : TerminalCall) → TerminalReply c → SimulatedTerminal → Type 0
+Did t c a u = (a, view u) ≡ done (counted (view t)) c

@@ -1,0 +1,147 @@
+// The simulated terminal: a terminal's values, on which POSIX's calls are made.
+ghost use Rattle.std.specs.Prelude.{◌≡◌, ◌≢◌, true, if◌then◌else◌, is_some, nat_lt, slice_set, unwrap_or};
+ghost use Rattle.host.specs.Calls as Calls;
+ghost use Rattle.host.specs.Fault.{fault};
+ghost use Rattle.std.specs.Option.{option_map};
+ghost use Rattle.foreground.specs.Session.{in_session};
+ghost use Rattle.foreground.specs.View.{number};
+ghost use Rattle.foreground.specs.Simulated.{Did, book_of, counted, fresh, view};
+ghost use Rattle.foreground.specs.SimulatedBook;
+
+use crate::console::Console;
+use crate::device::{Device, NOT_PERMITTED};
+use crate::group::Group;
+use crate::process::{Handling, Process};
+use crate::session::{Member, NoPlace, Session};
+use host::fault::Fault;
+use host::terminal::Terminal;
+use std::num::Wrapping;
+
+// A grant is open (EBUSY).
+const BUSY: Fault = Fault { code: 16 };
+
+// The saved settings are those that the open grant will restore; without a grant there are none.
+#[derive(Drop)]
+pub struct SimulatedTerminal {
+    console: Console,
+    saved: Option<u32>,
+    served: Wrapping<u64>,
+}
+
+impl SimulatedTerminal {
+    // The terminal of a supervisor whose process is in this group.
+    pub fn new(own: Group) -> Self
+        ensures { view result ≡ fresh own.number }
+    {
+        SimulatedTerminal {
+            console: Console {
+                process: Process {
+                    group: own,
+                    handling: Handling::Default,
+                },
+                device: Device {
+                    foreground: None,
+                    settings: 0,
+                    session: Session::new(),
+                },
+            },
+            saved: None,
+            served: Wrapping(0),
+        }
+    }
+
+    pub fn set_foreground(&mut self, group: Option<Group>)
+        ensures { let s = view self.old in view self.new ≡ record s { tty = record s.tty { foreground = option_map number group } } }
+    {
+        self.console.device.foreground = group;
+    }
+
+    pub fn set_settings(&mut self, settings: u32)
+        ensures { let s = view self.old in view self.new ≡ record s { tty = record s.tty { settings = settings } } }
+    {
+        self.console.device.settings = settings;
+    }
+
+    // Puts a group into a place of the session, or none; there are sixteen places, from 0 on.
+    pub fn set_place(&mut self, place: usize, member: Option<Member>) -> Result<(), NoPlace>
+        ensures answer { result ≡ (if nat_lt place 16 then Ok tt else Err (record { place = place })) }
+        ensures after { let s = view self.old in view self.new ≡ record s { tty = record s.tty { groups = if nat_lt place 16 then slice_set s.tty.groups place member else s.tty.groups } } }
+    {
+        self.console.device.session.put(place, member)
+    }
+
+    // What the supervisor's process does with signal 22.
+    pub fn set_handling(&mut self, handling: Handling)
+        ensures { let s = view self.old in view self.new ≡ record s { tty = record s.tty { handling = handling } } }
+    {
+        self.console.process.handling = handling;
+    }
+
+    // The settings that the open grant will restore; with none, no grant is open.
+    pub fn set_saved(&mut self, saved: Option<u32>)
+        ensures { view self.new ≡ record (view self.old) { saved = saved } }
+    {
+        self.saved = saved;
+    }
+}
+
+impl Terminal for SimulatedTerminal {
+    ghost book = { λ t. book_of (view t) };
+
+    ghost did = { Did };
+
+    ghost keeps = { SimulatedBook.keeps_so };
+
+    ghost sound = { SimulatedBook.sound };
+
+    fn own_group(&self) -> u32 {
+        self.console.process.group.number
+    }
+
+    fn owner(&mut self) -> Option<u32> {
+        self.served += 1;
+        self.console.device.tcgetpgrp().map(|group| group.number)
+    }
+
+    // Beside what the call does, its clauses say what that keeps, that no write is stopped (EINTR, 4), that a group outside the
+    // session changes nothing, and that the foreground is taken back from an empty group.
+    fn acquire(&mut self, group: u32) -> Result<(), Fault>
+        ensures did { Did self.old (Calls.acquire group) result self.new }
+        ensures same_handling { (view self.new).tty.handling ≡ (view self.old).tty.handling }
+        ensures same_settings { (view self.new).tty.settings ≡ (view self.old).tty.settings }
+        ensures never_stopped { result ≢ Err (fault 4) }
+        ensures outside { result ≡ Err (fault 1) → view self.new ≡ counted (view self.old) }
+        ensures empty { let t = (view self.old).tty in result ≡ Err (fault 3) → in_session t.own t.groups ≡ true → (view self.new).tty.foreground ≡ Some t.own }
+    {
+        self.served += 1;
+        if self.saved.is_some() {
+            return Err(BUSY);
+        }
+        // A number that no group has is in no session.
+        let Ok(group) = Group::try_from(group) else {
+            return Err(NOT_PERMITTED);
+        };
+        let settings = self.console.device.tcgetattr();
+        self.console.give(group)?;
+        self.saved = Some(settings);
+        Ok(())
+    }
+
+    // Beside what the call does, its clauses say what that keeps, and that saved settings are restored whatever fails.
+    fn release(&mut self)
+        ensures did { Did self.old Calls.release result self.new }
+        ensures same_handling { (view self.new).tty.handling ≡ (view self.old).tty.handling }
+        ensures settings { (view self.new).tty.settings ≡ unwrap_or (view self.old).saved (view self.old).tty.settings }
+        ensures closed { (view self.new).saved ≡ None }
+        ensures foreground { let t = (view self.old).tty in is_some (view self.old).saved ≡ true → in_session t.own t.groups ≡ true → (view self.new).tty.foreground ≡ Some t.own }
+    {
+        self.served += 1;
+        if let Some(settings) = self.saved.take() {
+            self.console.take_back();
+            self.console.restore(settings);
+        }
+    }
+}
+
+#[cfg(test)]
+mod tests;
