@@ -19,7 +19,8 @@ pub(crate) struct Process {
     pub(crate) handling: Handling,
 }
 
-// While it lives, the process ignores signal 22. Its end puts the former handling back.
+// While it lives, the process ignores signal 22. Its end puts the former handling back, on every way out of the function that
+// made it.
 pub(crate) struct Ignoring<'a> {
     pub(crate) process: &'a mut Process,
     former: Handling,
