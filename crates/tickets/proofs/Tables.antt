@@ -1,5 +1,5 @@
 -- What raising, issuing and vacating do to a ticket table: to its weights, its length and its marks.
-use Rattle.std.proofs.Common.{◌≡◌, ℕ, ◌+◌, ◌≤◌, Bool, true, cond, List, [], ◌∷◌, ◌++◌, length, get_or, set, Some, None, one-add, length-set, refl, ap, ◌∙◌, arith}
+use Rattle.std.proofs.Common.{◌≡◌, ℕ, ◌+◌, ◌≤◌, Bool, true, cond, List, [], ◌∷◌, ◌++◌, length, get_or, set, ◌==◌, false, Option, Some, None, one-add, length-set, refl, ap, ◌∙◌, arith}
 use Rattle.std.specs.List.{position_or_len, position}
 use Rattle.std.proofs.lemmas.Bool.Decides.{nat_tests}
 use Rattle.std.proofs.lemmas.Grind.{common_steps}
@@ -8,7 +8,7 @@ use Rattle.std.proofs.lemmas.List.Sums.{sum_by-cons}
 use Rattle.tickets.specs.declared.flag.Mark.{Mark}
 use Rattle.tickets.specs.declared.flag.Mark.TheVariants.{Held, Raised}
 use Rattle.tickets.specs.Weights.{weight, weigh, one_at, each}
-use Rattle.tickets.specs.Tickets.{Place, Table, place, is_waiting, is_raised, is_taken, change, raise, raise_each, put, vacate, found, free, free_places, ticket_room}
+use Rattle.tickets.specs.Tickets.{Place, Table, place, is_waiting, is_raised, is_taken, change, raise, raise_each, put, vacate, found, goes_on, settled, free, free_places, ticket_room}
 
 -- WEIGHTS
 
@@ -125,3 +125,34 @@ raise-keeps s t (e ∷ es) h = grind (arith, common_steps, raise-keeps s t es)
 pub raise_each-keeps : (s : ℕ) (ts : List ℕ) (es : Table) → found s es ≡ Some Raised → found s (raise_each ts es) ≡ Some Raised
 raise_each-keeps s [] es h = h
 raise_each-keeps s (t ∷ ts) es h = raise_each-keeps s ts (raise t es) (raise-keeps s t es h)
+
+-- WHERE A TICKET IS
+
+-- another ticket stays as it is where one is issued, or leaves its place
+pub found-put : (s t : ℕ) (mark : Mark) (es : Table) → (s == t) ≡ false → found s (put t mark es) ≡ found s es
+found-put s t mark [] n = refl
+found-put s t mark (e ∷ es) n = grind (arith, common_steps, found-put s t mark es)
+
+pub found-vacate : (s t : ℕ) (es : Table) → (s == t) ≡ false → found s (vacate t es) ≡ found s es
+found-vacate s t [] n = refl
+found-vacate s t (e ∷ es) n = grind (arith, common_steps, found-vacate s t es)
+
+-- a ticket goes on where any is raised
+pub goes_again : (k : Option Mark) → goes_on k k ≡ true
+goes_again k = grind (arith, common_steps)
+
+pub goes_further : (k l m : Option Mark) → goes_on k l ≡ true → goes_on l m ≡ true → goes_on k m ≡ true
+goes_further k l m g h = grind (arith, common_steps)
+
+pub raise-goes : (s t : ℕ) (es : Table) → goes_on (found s es) (found s (raise t es)) ≡ true
+raise-goes s t [] = refl
+raise-goes s t (e ∷ es) = grind (arith, common_steps, nat_tests, raise-goes s t es, goes_again)
+
+pub raise_each-goes : (s : ℕ) (ts : List ℕ) (es : Table) → goes_on (found s es) (found s (raise_each ts es)) ≡ true
+raise_each-goes s [] es = goes_again (found s es)
+raise_each-goes s (t ∷ ts) es = goes_further (found s es) (found s (raise t es)) (found s (raise_each ts (raise t es))) (raise-goes s t es) (raise_each-goes s ts (raise t es))
+
+-- in a table with one place for it at most, a ticket waits, is raised, or has no place
+pub one_standing : (s : ℕ) (es : Table) → weight is_taken (one_at s) es ≤ 1 → weight is_waiting (one_at s) es + settled (found s es) ≡ 1
+one_standing s [] h = refl
+one_standing s (e ∷ es) h = grind (arith, common_steps, nat_tests, one_standing s es, taken_parts (one_at s) es)

@@ -95,6 +95,22 @@ vacate t es = change (stands t) (λ _. None) es
 abbrev pub found : ℕ → Table → Option Mark
 found t es = option_map (λ k. k.mark) (option_flatten (find (stands t) es))
 
+-- a ticket is settled once it is raised, or has no place any more: it was collected, or nobody held it; the number is 1 for yes
+abbrev pub settled : Option Mark → ℕ
+settled None = 1
+settled (Some Raised) = 1
+settled (Some mark) = 0
+
+-- what may become of a ticket in one call that does not collect it: one that is held waits on or is raised, a raised one stays
+-- raised, and one that has no place any more gets none
+abbrev pub goes_on : Option Mark → Option Mark → Bool
+goes_on (Some Held) (Some Held) = true
+goes_on (Some Held) (Some Raised) = true
+goes_on (Some Raised) (Some Raised) = true
+goes_on (Some Unheld) after = true
+goes_on None None = true
+goes_on before after = false
+
 -- NEW TICKETS
 
 -- 256 free places, and no serial given out
