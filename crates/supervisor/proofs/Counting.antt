@@ -1,7 +1,8 @@
 -- How many records of a step pass a test, whatever host and terminal answer.
 use Rattle.std.proofs.Common.{◌≡◌, ℕ, ◌+◌, Bool, true, false, if◌then◌else◌, is_ok, Some, None, Ok, Err, Option, Result, List, refl, sym, subst, arith}
 use Rattle.std.specs.Prelude.{⊤}
-use Rattle.std.specs.List.{fold}
+use Rattle.std.specs.List.{fold, count_by}
+use Rattle.std.proofs.lemmas.List.Folds.{fold-map}
 use Rattle.std.proofs.lemmas.Grind.{common_steps}
 use Rattle.host.specs.declared.fault.Fault.{Fault}
 use Rattle.host.specs.declared.state.ProcessEnd.{ProcessEnd}
@@ -12,8 +13,9 @@ use Rattle.host.specs.declared.journal.Answer.{Answer}
 use Rattle.host.specs.declared.journal.Answer.TheVariants.{Nothing, End}
 use Rattle.host.specs.declared.journal.Record.{Record}
 use Rattle.host.specs.Calls.{Call, Reply, Event}
-use Rattle.host.specs.Interaction.{Interaction, done, ask, bind, Traces}
-use Rattle.host.specs.Journal.{entry, or_fault, or_nothing, nothing, record_of, journal}
+use Rattle.host.specs.Interaction.{Interaction, done, bind, Traces}
+use Rattle.host.specs.Journal.{entry, or_fault, or_nothing, nothing, record_of, event_record, journal}
+use Rattle.task.proofs.Always.{Always, always_then, always_traced}
 use Rattle.task.specs.declared.messages.Control.TheVariants.{ContinueTryGracefulRestart}
 use Rattle.task.specs.declared.task.Outcome.TheVariants.{Settled, Ended}
 use Rattle.task.specs.declared.task.PollOutcome.{PollOutcome}
@@ -22,25 +24,26 @@ use Rattle.task.specs.Task as Tree
 use Rattle.task.specs.Task.{TaskView, Part, Course}
 use Rattle.supervisor.specs.Laws.{starts_or_fails, reports_end}
 
+-- one more record that passes q, or does not
+abbrev pub counted : (Record → Bool) → ℕ → (c : Call) → Reply c → ℕ
+counted q n c a = n + (if q (record_of c a) then 1 else 0)
+
 -- with n records counted before, R holds at the end of how many pass q, and of the value
 abbrev pub Counts : {A : Type 0} → (Record → Bool) → (ℕ → A → Type 0) → ℕ → Interaction A → Type 0
-Counts q R n (done x) = R n x
-Counts q R n (ask c k) = (a : Reply c) → Counts q R (n + (if q (record_of c a) then 1 else 0)) (k a)
+Counts q R n t = Always (counted q) R n t
 
-pub counts_then : {A B : Type 0} (q : Record → Bool) (L : ℕ → A → Type 0) (R : ℕ → B → Type 0) (n : ℕ) (t : Interaction A) (f : A → Interaction B) → Counts q L n t → ((i : ℕ) (x : A) → L i x → Counts q R i (f x)) → Counts q R n (bind t f)
-counts_then q L R n (done x) f h k = k n x h
-counts_then q L R n (ask c g) f h k = λ a. counts_then q L R (n + (if q (record_of c a) then 1 else 0)) (g a) f (h a) k
-
-pub counts_traced : {S A : Type 0} (did : S → (c : Call) → Reply c → S → Type 0) (q : Record → Bool) (R : ℕ → A → Type 0) (n : ℕ) (t : Interaction A) (s s' : S) (p : List Event) (x : A) → Counts q R n t → Traces did t s p x s' → R (fold (λ i r. i + (if q r then 1 else 0)) n (journal p)) x
-counts_traced did q R n (done y) s s' p x h r = rw (r.0, r.1) h
-counts_traced did q R n (ask c k) s s' p x h r = rw r.3 (counts_traced did q R (n + (if q (record_of c r.0) then 1 else 0)) (k r.0) r.1 s' r.2 x (h r.0) r.5)
+-- so it holds of the records of each trace
+pub counts_traced : {S A : Type 0} (did : S → (c : Call) → Reply c → S → Type 0) (q : Record → Bool) (R : ℕ → A → Type 0) (t : Interaction A) (s s' : S) (p : List Event) (x : A) → Counts q R 0 t → Traces did t s p x s' → R (count_by q (journal p)) x
+counts_traced did q R t s s' p x h r =
+    let ends : R (fold (λ n e. counted q n e.0 e.1) 0 p) x = always_traced (counted q) did R 0 t s s' p x h r in
+    rw (fold-map (λ n (e : Record). n + (if q e then 1 else 0)) event_record 0 p) ends
 
 -- those that pass q are as many as m says of the value
 abbrev pub Sums : {A : Type 0} → (Record → Bool) → (A → ℕ) → ℕ → Interaction A → Type 0
 Sums q m n t = Counts q (λ i x. i ≡ m x) n t
 
 pub sums_then : {A B : Type 0} (q : Record → Bool) (l : A → ℕ) (m : B → ℕ) (n : ℕ) (t : Interaction A) (f : A → Interaction B) → Sums q l n t → ((x : A) → Sums q m (l x) (f x)) → Sums q m n (bind t f)
-sums_then q l m n t f h k = counts_then q (λ i x. i ≡ l x) (λ i y. i ≡ m y) n t f h (λ i x e. subst (λ (i : ℕ). Sums q m i (f x)) (sym e) (k x))
+sums_then q l m n t f h k = always_then (counted q) (λ i x. i ≡ l x) (λ i y. i ≡ m y) n t f h (λ i x e. subst (λ (i : ℕ). Sums q m i (f x)) (sym e) (k x))
 
 -- a test that passes over the calls beside a start and an end, and counts s for a spawn
 pub record Passes (q : Record → Bool) (s : ℕ) : Type 0 where

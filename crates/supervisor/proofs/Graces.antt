@@ -1,13 +1,13 @@
 -- The laws of graces, whatever host and terminal answer.
 use Rattle.std.proofs.Common.{◌≡◌, ℕ, ◌<◌, ◌≤◌, true, false, is_some, Some, None, Ok, Option, [], refl, sym, ◌∙◌, subst, arith}
-use Rattle.std.specs.Prelude.{⊤, take}
+use Rattle.std.specs.Prelude.{take}
 use Rattle.std.proofs.lemmas.Grind.{common_steps}
 use Rattle.tickets.specs.declared.flag.Mark.TheVariants.{Held, Raised}
 use Rattle.tickets.specs.Tickets.{found}
 use Rattle.tickets.proofs.Tables.{raise-held, raise-keeps, raise_each-keeps}
 use Rattle.host.specs.declared.process.Host as Host
 use Rattle.host.specs.declared.terminal.Terminal as Terminal
-use Rattle.host.specs.Interaction.{Answered}
+use Rattle.host.specs.Interaction.{done, Answered}
 use Rattle.task.specs.Messages.{at_end}
 use Rattle.task.specs.declared.messages.GraceEnd.{GraceEnd}
 use Rattle.task.specs.declared.messages.GraceEnd.TheVariants.{Restart}
@@ -16,21 +16,23 @@ use Rattle.task.specs.declared.task.PollOutcome.{PollOutcome}
 use Rattle.task.specs.declared.task.PollOutcome.TheVariants.{Over, Renewed}
 use Rattle.task.specs.Task as Tree
 use Rattle.task.specs.Task.{TaskView, Timed, is_graced}
-use Rattle.task.proofs.Always.{Always, always_then, always_ends}
-use Rattle.task.proofs.Courses.{control_always}
+use Rattle.task.proofs.Always.{Always, always_then}
+use Rattle.task.proofs.Books.{Books, moved}
+use Rattle.task.proofs.Courses.{FitsTask, Carried, control_fits}
+use Rattle.task.proofs.Traced.{traced, fitting}
 use Rattle.task.proofs.Sheets.{records_are}
 use Rattle.supervisor.specs.declared.answers.Stepped.{Stepped}
 use Rattle.supervisor.specs.declared.mailbox.Received.{Received}
 use Rattle.supervisor.specs.declared.mailbox.Source.TheVariants as Sources
 use Rattle.supervisor.specs.declared.timer.Timer.{Timer}
-use Rattle.supervisor.specs.Job.{JobView, look, carried, carry_out, control_step, watched, child_step}
+use Rattle.supervisor.specs.Job.{JobView, Stepping, look, carried, carry_out, control_step, watched, child_step}
 use Rattle.supervisor.specs.Laws.{Pends, TakenWhenDue, NormalWaits, Continues, RaisedAtEnd, starts_or_fails, reports_end}
 use Rattle.supervisor.specs.Mailbox as Mail
 use Rattle.supervisor.specs.Mailbox.{MailboxView, Taken, received, with_timer, settle, timer_raised, ended, again}
 use Rattle.supervisor.specs.Sound.{InOrder}
 use Rattle.supervisor.specs.Steps.{Moment, job_view, stepping, Accepted}
 use Rattle.supervisor.specs.Timers.{timer_message, memory}
-use Rattle.supervisor.proofs.Counting.{Counts, counts_then, counts_traced, Sums, sums_then, continue_counts, poll_counts, found_end}
+use Rattle.supervisor.proofs.Counting.{Counts, counted, counts_traced, Sums, sums_then, continue_counts, poll_counts, found_end}
 use Rattle.supervisor.proofs.Mailboxes.{InHand, take_in}
 
 -- what is taken while the timer t is pending: its message once it is due, with which the timer is gone; before that another one,
@@ -65,15 +67,19 @@ carried_law time v r n h e x f =
 idle_law : (time : ℕ) (v : JobView) → Mail.take time v.mailbox ≡ None → TakenWhenDue time v (record v { clock = time }) × NormalWaits v (record v { clock = time })
 idle_law time v e = (record { due = λ t p l. grind (arith, common_steps); early = λ t p l. refl }, λ t p. refl)
 
-pub control_law : (time : ℕ) (v : JobView) → InOrder [] v.mailbox → Always 1 (λ s. TakenWhenDue time v s.view × NormalWaits v s.view) (control_step time v)
-control_law time v h = by (Mail.take time v.mailbox) refl
+-- what the laws say of the job that a control step leaves
+abbrev ControlLaw : ℕ → JobView → Stepping → Type 0
+ControlLaw time v s = TakenWhenDue time v s.view × NormalWaits v s.view
+
+pub control_law : (time : ℕ) (v : JobView) (b : Books) → InOrder [] v.mailbox → FitsTask 0 v.task b → Always moved (λ _ s. ControlLaw time v s) b (control_step time v)
+control_law time v b h f = by (Mail.take time v.mailbox) refl
   where
-    by : (k : Taken) → Mail.take time v.mailbox ≡ k → Always 1 (λ s. TakenWhenDue time v s.view × NormalWaits v s.view) (carry_out k time v)
+    by : (k : Taken) → Mail.take time v.mailbox ≡ k → Always moved (λ _ s. ControlLaw time v s) b (carry_out k time v)
     by None e = idle_law time v e
     by (Some (r, n)) e =
         let c = r.message.control in
-        always_then 1 0 (λ x. ⊤ × Timed c x.1) _ (Tree.control c time v.task) _ (control_always (λ _ _. ⊤) (λ _. tt) (λ _ _ _. tt) c time v.task tt)
-        (λ x f. carried_law time v r n (take_in time v.mailbox r n h e) e x f.1)
+        always_then moved (Carried c) (λ _ s. ControlLaw time v s) b (Tree.control c time v.task) (λ x. done (carried time r n x)) (control_fits c time v.task b f)
+        (λ u x k. carried_law time v r n (take_in time v.mailbox r n h e) e x k.4)
 
 -- a timer that is due is taken
 take_now : (time : ℕ) (t : Timer) (m : MailboxView) → m.timer ≡ Some t → t.deadline ≤ time → Mail.take time m ≡ Some (received (timer_message t) Sources.Timer, with_timer None m)
@@ -127,7 +133,7 @@ end_law time v (k, o) t p l = absurd (omega (arith, l))
 child_law : (time : ℕ) (v : JobView) → Counts reports_end (λ ends s. EndLaw v ends s.view) 0 (child_step time v)
 child_law time v =
     let restart = is_some (memory v.mailbox.timer) in
-    counts_then reports_end (λ i x. i ≡ found_end x) _ 0 (Tree.poll_child restart time v.task) _ (poll_counts restart time v.task) (λ i x e. subst (λ (i : ℕ). EndLaw v i (watched time v x).view) (sym e) (end_law time v x))
+    always_then (counted reports_end) (λ i x. i ≡ found_end x) (λ ends s. EndLaw v ends s.view) 0 (Tree.poll_child restart time v.task) (λ x. done (watched time v x)) (poll_counts restart time v.task) (λ i x e. subst (λ (i : ℕ). EndLaw v i (watched time v x).view) (sym e) (end_law time v x))
 
 -- ON THE SHEET
 
@@ -137,10 +143,10 @@ module _ {H T : Type 0} {by_host : Host.Ghosts H} {by_terminal : Terminal.Ghosts
   control_accepted time a b s h k =
       let v = job_view a.job in
       let run = k.conducts in
-      let laws = always_ends (Answered by_host by_terminal) (λ x. TakenWhenDue time v x.view × NormalWaits v x.view) (control_step time v) _ _ run.trace (stepping b.job s) (control_law time v h) run.traces in (
+      let laws = traced (Answered by_host by_terminal) v.task a.job.granted (λ _ x. ControlLaw time v x) (control_step time v) _ _ run.trace (stepping b.job s) (λ u f. control_law time v u h f) run.traces _ _ (fitting v.task) in (
         laws.0,
         laws.1,
-        λ t p e l. rw (records_are run) (counts_traced (Answered by_host by_terminal) starts_or_fails (λ i _. i ≡ 1) 0 (control_step time v) _ _ run.trace (stepping b.job s) (restart_sums time t v p e l) run.traces),
+        λ t p e l. rw (records_are run) (counts_traced (Answered by_host by_terminal) starts_or_fails (λ i _. i ≡ 1) (control_step time v) _ _ run.trace (stepping b.job s) (restart_sums time t v p e l) run.traces),
       )
 
   -- and of an accepted child step
@@ -148,4 +154,4 @@ module _ {H T : Type 0} {by_host : Host.Ghosts H} {by_terminal : Terminal.Ghosts
   child_accepted time a b s k =
       let v = job_view a.job in
       let run = k.conducts in
-      rw (records_are run) (counts_traced (Answered by_host by_terminal) reports_end (λ i x. EndLaw v i x.view) 0 (child_step time v) _ _ run.trace (stepping b.job s) (child_law time v) run.traces)
+      rw (records_are run) (counts_traced (Answered by_host by_terminal) reports_end (λ i x. EndLaw v i x.view) (child_step time v) _ _ run.trace (stepping b.job s) (child_law time v) run.traces)

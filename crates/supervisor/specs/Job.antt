@@ -1,5 +1,5 @@
 -- The job: what it holds, how it is made, its sends, looks and collects, its pauses, and its steps.
-use Rattle.std.specs.Prelude.{ℕ, ◌^◌, Bool, true, false, if◌then◌else◌, not, ◌&&◌, ◌||◌, [], ◌∷◌, ◌++◌, length, is_some, Some, None, Ok, Err, Option, Result, ◌==◌, nat_le, nat_lt, ⊤}
+use Rattle.std.specs.Prelude.{ℕ, ◌^◌, Bool, true, false, if◌then◌else◌, not, ◌&&◌, ◌||◌, List, [], ◌∷◌, ◌++◌, length, is_some, Some, None, Ok, Err, Option, Result, ◌==◌, nat_le, nat_lt, ⊤}
 use Rattle.host.specs.declared.command.SpawnOptions.{SpawnOptions}
 use Rattle.host.specs.declared.command.Command.{Command}
 use Rattle.host.specs.declared.state.CommandState.TheVariants.{Pending}
@@ -20,7 +20,7 @@ use Rattle.task.specs.declared.task.Outcome.{Outcome}
 use Rattle.task.specs.declared.task.PollOutcome.{PollOutcome}
 use Rattle.supervisor.specs.Answers.{control_progress, poll_progress, pause_progress}
 use Rattle.task.specs.Task as Tree
-use Rattle.task.specs.Task.{TaskView, closes, control, poll_child, with_pauses}
+use Rattle.task.specs.Task.{TaskView, children, closes, control, poll_child, with_pauses}
 use Rattle.supervisor.specs.Mailbox as Mail
 use Rattle.supervisor.specs.Mailbox.{MailboxView, Taken, take, orders_start, settle, after_poll}
 use Rattle.supervisor.specs.Sends.{priority_of, controls_of}
@@ -65,6 +65,10 @@ make program options = if program == 0 then Err Number else made_of program (opt
 -- a dead job runs nothing
 abbrev pub runs : JobView → Bool
 runs v = not v.closed && is_running v.task.state
+
+-- the children of a job: the one that runs
+abbrev pub children_of : JobView → List ℕ
+children_of v = if v.closed then [] else children v.task.state
 
 -- SENDS
 

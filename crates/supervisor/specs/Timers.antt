@@ -1,5 +1,6 @@
 -- The timer of a job: its message, and the restart memory.
-use Rattle.std.specs.Prelude.{ℕ, if◌then◌else◌, Some, None, Option, nat_le}
+use Rattle.std.specs.Prelude.{ℕ, if◌then◌else◌, Some, None, Option, is_some, nat_le}
+use Rattle.std.specs.Int.{from_bool}
 use Rattle.task.specs.Messages.{at_end}
 use Rattle.task.specs.declared.messages.ControlMessage.{ControlMessage}
 use Rattle.task.specs.declared.messages.GraceEnd.{GraceEnd}
@@ -23,3 +24,7 @@ remembered Stop ticket = None
 abbrev pub memory : Option Timer → Option ℕ
 memory None = None
 memory (Some t) = remembered t.end t.ticket
+
+-- the starts that are owed: that of a restart that is pending
+abbrev pub owed : Option Timer → ℕ
+owed t = from_bool (is_some (memory t))

@@ -22,6 +22,8 @@ pub struct Job {
     // Of a closed job too, so it stands beside `in_order`.
     ghost full: { Full (mailbox_view mailbox) },
     ghost granted: { Granted (task_view task) },
+    // A closed job holds no grant.
+    ghost yielded: { closed ≡ true → (task_view task).foreground.grant ≡ false },
     ghost timely: { clock ≤ 2 ^ 62 },
 }
 

@@ -1,169 +1,312 @@
--- The trees of a control and of a poll: one start is tried at most, and what is said of the grant stays, whatever host and terminal answer.
-use Rattle.std.proofs.Common.{◌≡◌, ℕ, ◌+◌, Bool, true, false, if◌then◌else◌, is_ok, Some, None, Ok, Err, Option, Result, refl, arith}
-use Rattle.std.specs.Prelude.{⊤}
+-- The trees of a control, of a poll and of a pause: books that fit the task fit it at the end, whatever host and terminal answer,
+-- and no more starts are tried than were ordered.
+use Rattle.std.proofs.Common.{◌≡◌, ℕ, ◌+◌, ◌≤◌, Bool, true, false, if◌then◌else◌, is_ok, Some, None, Ok, Err, Option, Result, List, [], ◌∷◌, refl, arith}
+use Rattle.std.specs.Prelude.{⊤, not, ◌&&◌, ◌||◌, ◌==◌}
+use Rattle.std.specs.Int.{from_bool}
+use Rattle.std.proofs.lemmas.Bool.Decides.{nat_tests}
+use Rattle.std.proofs.lemmas.Grind.{common_steps}
 use Rattle.host.specs.declared.fault.Fault.{Fault}
 use Rattle.host.specs.declared.state.ProcessEnd.{ProcessEnd}
 use Rattle.host.specs.declared.state.CommandState.{CommandState}
-use Rattle.host.specs.declared.state.CommandState.TheVariants.{Running, Finished}
-use Rattle.host.specs.State.{is_running}
-use Rattle.host.specs.Interaction.{done, bind}
+use Rattle.host.specs.declared.state.CommandState.TheVariants.{Pending, Running, Finished}
+use Rattle.host.specs.Command.{wants_grant}
+use Rattle.host.specs.State.{is_running, kept}
+use Rattle.host.specs.declared.command.SpawnOptions.{SpawnOptions}
+use Rattle.std.specs.Result.{result_unwrap_or}
+use Rattle.host.specs.Books.{strike}
+use Rattle.host.specs.Calls.{to_host, to_terminal, poll, kill, wait, spawn, hook, routine, cont, acquire}
+use Rattle.host.specs.Interaction.{Interaction, done, bind}
 use Rattle.task.specs.declared.messages.Control.{Control}
 use Rattle.task.specs.declared.messages.Control.TheVariants.{Start, Stop, GracefulStop, TryRestart, TryGracefulRestart, ContinueTryGracefulRestart, Signal, Delete, NextEnding, Func}
 use Rattle.task.specs.declared.messages.GraceEnd.{GraceEnd}
 use Rattle.task.specs.declared.messages.GraceEnd.TheVariants as GraceEnds
 use Rattle.task.specs.declared.task.Outcome.{Outcome}
-use Rattle.task.specs.declared.task.Outcome.TheVariants.{Settled, Ended, Graced, Joined, Closes}
-use Rattle.task.specs.declared.task.PollOutcome.TheVariants.{Over, Renewed}
+use Rattle.task.specs.declared.task.Outcome.TheVariants.{Settled, Ended, Graced, Joined}
+use Rattle.task.specs.declared.task.PollOutcome.{PollOutcome}
+use Rattle.task.specs.declared.task.PollOutcome.TheVariants.{Idle, Faulted, Over, Renewed}
+use Rattle.task.specs.Messages.{orders}
 use Rattle.task.specs.Task as Tree
-use Rattle.task.specs.Task.{TaskView, Part, is_graced, Timed}
-use Rattle.task.proofs.Always.{Always, always_then}
+use Rattle.task.specs.Task.{TaskView, Part, Course, children, closes, is_graced, Timed}
+use Rattle.task.proofs.Always as Every
+use Rattle.task.proofs.Always.{always_then}
+use Rattle.task.proofs.Books.{Books, moved}
 
--- a fault is told in one call
-told_always : (r : Result ⊤ Fault) (handler : Option ℕ) → Always 0 (λ _. ⊤) (Tree.told handler r)
-told_always (Err fault) (Some n) = (0, omega arith, λ _. tt)
-told_always r handler = tt
+-- the books fit a task in the state s that holds a grant or none, and at most n starts were tried
+abbrev pub Fits : ℕ → CommandState → Bool → Books → Type 0
+Fits n s grant b = (grant ≡ true → is_running s ≡ true) × (b.roster ≡ children s) × (b.grants ≡ from_bool grant) × (b.tried ≤ n)
 
-resume_always : (P : TaskView → Type 0) (p : Option ℕ) (s : CommandState) (t : TaskView) → P t → P (Tree.not_paused t) → Always 0 P (Tree.resumed p s t)
-resume_always P None s t h n = h
-resume_always P (Some p) (Running child began) t h n = (0, omega arith, λ _. n)
-resume_always P (Some p) s t h n = n
+abbrev pub FitsTask : ℕ → TaskView → Books → Type 0
+FitsTask n t b = Fits n t.state t.foreground.grant b
 
--- what holds of the task at the end of a part holds once its fault was told
-reported_always : (P : TaskView → Type 0) (n : ℕ) (part : Part) → Always n (λ x. P x.0) part → Always (n + 0) (λ x. P x.0) (Tree.reported part)
-reported_always P n part h =
-    always_then n 0 (λ x. P x.0) (λ x. P x.0) part _ h
-    (λ x f. always_then 0 0 (λ _. ⊤) (λ y. P y.0) (Tree.told x.0.settings.handler x.1) (λ _. done x) (told_always x.1 x.0.settings.handler) (λ _ _. f))
+abbrev Always : {A : Type 0} → (Books → A → Type 0) → Books → Interaction A → Type 0
+Always R b t = Every.Always moved R b t
 
--- What is said of whether a grant is held and whether a child runs: true where no grant is held, and if it is true of a grant
--- while no child runs, then also once one does.
-module _ (Fits : Bool → Bool → Type 0) (released : (running : Bool) → Fits false running) (launched : (grant running : Bool) → Fits grant false → Fits grant running) where
-  abbrev Granted : TaskView → Type 0
-  Granted t = Fits t.foreground.grant (is_running t.state)
+-- PARTS
 
-  -- it is true whether a child runs or not
-  abbrev Free : TaskView → Type 0
-  Free t = (running : Bool) → Fits t.foreground.grant running
+-- telling a fault moves none of them
+told_keeps : (P : Books → Type 0) (b : Books) (handler : Option ℕ) (r : Result ⊤ Fault) → P b → Always (λ u _. P u) b (Tree.told handler r)
+told_keeps P b (Some k) (Err fault) h = λ a. h
+told_keeps P b None (Err fault) h = h
+told_keeps P b handler (Ok u) h = h
 
-  -- it is true at the end of a course, and what Fine says of its outcome
-  abbrev Ends : {O : Type 0} → (O → Type 0) → TaskView × O → Type 0
-  Ends Fine x = Granted x.0 × Fine x.1
+-- what holds at the end of a part holds once its fault was told
+reported_keeps : (R : Books → TaskView × Result ⊤ Fault → Type 0) (b : Books) (part : Part) → Always R b part → Always R b (Tree.reported part)
+reported_keeps R b part h = always_then moved R R b part _ h
+    (λ u x r. always_then moved (λ w _. R w x) R u (Tree.told x.0.settings.handler x.1) (λ _. done x) (told_keeps (λ w. R w x) u x.0.settings.handler x.1 r) (λ _ _ q. q))
 
-  -- a part, and then an outcome
-  ended_always : {O : Type 0} (Fine : O → Type 0) (P : TaskView → Type 0) (n : ℕ) (part : Part) (outcome : Result ⊤ Fault → O) → ((r : Result ⊤ Fault) → Fine (outcome r)) → ((t : TaskView) → P t → Granted t) → Always n (λ x. P x.0) part → Always (n + 0 + 0) (Ends Fine) (bind (Tree.reported part) (λ x. done (x.0, outcome x.1)))
-  ended_always Fine P n part outcome fine grants h = always_then (n + 0) 0 (λ x. P x.0) _ (Tree.reported part) _ (reported_always P n part h) (λ x f. (grants x.0 f, fine x.1))
+resume_fits : (n : ℕ) (b : Books) (p : Option ℕ) (s : CommandState) (t : TaskView) → FitsTask n t b → Always (λ u x. FitsTask n x u) b (Tree.resumed p s t)
+resume_fits n b None s t h = h
+resume_fits n b (Some p) (Running child began) t h = λ a. h
+resume_fits n b (Some p) s t h = h
 
-  free : (t : TaskView) → Free t → Granted t
-  free t f = f (is_running t.state)
+-- it fits, and no grant is held
+abbrev Free : ℕ → TaskView → Books → Type 0
+Free n t b = FitsTask n t b × (t.foreground.grant ≡ false)
 
-  launch_always : (time : ℕ) (t : TaskView) → Free t → Always 1 (λ x. Free x.0) (Tree.launch time t)
-  launch_always time t f = hooks t.settings.hook
+unheld : (s : CommandState) → false ≡ true → is_running s ≡ true
+unheld s e = cc
+
+-- whatever the state is and was
+yield_fits : (n : ℕ) (held : Bool) (t : TaskView) (b : Books) → b.roster ≡ children t.state → b.grants ≡ from_bool held → b.tried ≤ n → Always (λ u x. Free n x u) b (Tree.yielded held t)
+yield_fits n false t b r g l = ((unheld t.state, r, g, l), refl)
+yield_fits n true t b r g l = λ a. ((unheld t.state, r, refl, l), refl)
+
+way_fits : (n : ℕ) (t : TaskView) (b : Books) → FitsTask n t b → Always (λ u x. Free n x u) b (Tree.make_way t)
+way_fits n t b h = always_then moved (λ u x. FitsTask n x u) (λ u x. Free n x u) b (Tree.resume t) Tree.yield (resume_fits n b t.foreground.paused t.state t h) (λ u t₁ f. yield_fits n t₁.foreground.grant t₁ u f.1 f.2 f.3)
+
+only_struck : (child : ℕ) → strike child (child ∷ []) ≡ []
+only_struck child = grind (arith, nat_tests, common_steps)
+
+-- no child is left by an end by force that was done
+abbrev Forced : ℕ → Books → TaskView × Result ⊤ Fault → Type 0
+Forced n b x = Free n x.0 b × (is_ok x.1 ≡ true → children x.0.state ≡ [])
+
+force_fits : (n child began time : ℕ) (t : TaskView) (b : Books) → t.state ≡ Running child began → Free n t b → Always (Forced n) b (Tree.end_by_force child began time t)
+force_fits n child began time t b e f = λ a. kills (moved b (to_host (kill child)) a) f a
+  where
+    waits : (c : Books) → Free n t c → (a : Result ProcessEnd Fault) → Forced n (moved c (to_host (wait child)) a) (Tree.waited began time t a)
+    waits c f (Ok end) = ((rw f.1 (unheld (Finished end began time), rw (f.0.1, e) (only_struck child), rw f.1 at f.0.2, f.0.3), f.1), λ _. refl)
+    waits c f (Err fault) = (f, λ o. cc)
+
+    kills : (c : Books) → Free n t c → (a : Result ⊤ Fault) → Always (Forced n) c (Tree.killed child began time t a)
+    kills c f (Ok u) = λ a. waits c f a
+    kills c f (Err fault) = (f, λ o. cc)
+
+launch_fits : (n time : ℕ) (t : TaskView) (b : Books) → children t.state ≡ [] → Free n t b → Always (λ u x. Free (n + 1) x.0 u) b (Tree.launch time t)
+launch_fits n time t b e f = hooks t.settings.hook
+  where
+    spawns : (c : Books) (options : SpawnOptions) (a : Result ℕ Fault) → c.roster ≡ [] → c.grants ≡ b.grants → c.tried ≡ b.tried → Free (n + 1) (Tree.spawned time (Tree.reset time t) a).0 (moved c (to_host (spawn t.command.program options t.settings.way time)) a)
+    spawns c options (Ok child) r g l = grind (arith, common_steps, f)
+    spawns c options (Err fault) r g l = grind (arith, common_steps, f)
+
+    hooks : (k : Option ℕ) → Always (λ u x. Free (n + 1) x.0 u) b (bind (Tree.hooked k (Tree.reset time t)) (Tree.spawn time (Tree.reset time t)))
+    hooks None = λ a. spawns b t.command.options a (rw e at f.0.1) refl refl
+    hooks (Some k) = λ o. λ a. spawns (moved b (to_host (hook k Pending (Some (kept time t.state)))) o) (result_unwrap_or o t.command.options) a (rw e at f.0.1) refl refl
+
+-- CONTROLS
+
+-- the starts that an outcome leaves to be tried: that of a restart whose grace runs
+abbrev pub owes : Outcome → ℕ
+owes (Graced grace GraceEnds.Restart) = 1
+owes o = 0
+
+-- at the end of the control c the books fit the task, and no child and no grant is left of a job that it closes; with what is owed,
+-- no start is tried that c does not order; and it leaves its ticket to a timer only if it sets one
+abbrev pub Carried : Control → Books → TaskView × Outcome → Type 0
+Carried c b x =
+    (x.0.foreground.grant ≡ true → is_running x.0.state ≡ true)
+    × (b.roster ≡ (if closes x.1 then [] else children x.0.state))
+    × (b.grants ≡ from_bool x.0.foreground.grant)
+    × (b.tried + owes x.1 ≤ from_bool (orders c))
+    × Timed c x.1
+    × (closes x.1 ≡ true → x.0.foreground.grant ≡ false)
+
+-- an outcome after which the job is open, no start is owed and no timer is set
+abbrev Plain : Outcome → Type 0
+Plain o = (closes o ≡ false) × (owes o ≡ 0) × (is_graced o ≡ false)
+
+module _ (c : Control) where
+  carried : (n : ℕ) (b : Books) (t : TaskView) (o : Outcome) → n ≤ from_bool (orders c) → Plain o → FitsTask n t b → Carried c b (t, o)
+  carried n b t o l p h = (h.0, rw p.0 h.1, h.2, omega (arith, p.1, h.3, l), λ g. cc, λ g. cc (g, p.0))
+
+  stop_fits : (s : CommandState) (time : ℕ) (t : TaskView) (b : Books) → t.state ≡ s → Free 0 t b → Always (Carried c) b (Tree.stop_in s time t)
+  stop_fits (Running child began) time t b e f = always_then moved (Forced 0) (Carried c) b (Tree.reported (Tree.end_by_force child began time t)) (λ x. done (x.0, Tree.unless_faulted Ended x.1)) (reported_keeps (Forced 0) b (Tree.end_by_force child began time t) (force_fits 0 child began time t b e f)) (λ u x h. carried 0 u x.0 (Tree.unless_faulted Ended x.1) (omega arith) (unless x.1) h.0.0)
     where
-      spawns : (a : Result ℕ Fault) → Free (Tree.spawned time (Tree.reset time t) a).0
-      spawns (Ok child) = f
-      spawns (Err fault) = f
+      unless : (r : Result ⊤ Fault) → Plain (Tree.unless_faulted Ended r)
+      unless (Ok u) = (refl, refl, refl)
+      unless (Err fault) = (refl, refl, refl)
+  stop_fits s time t b e f = carried 0 b t Settled (omega arith) (refl, refl, refl) f.0
 
-      hooks : (n : Option ℕ) → Always 1 (λ x. Free x.0) (bind (Tree.hooked n (Tree.reset time t)) (Tree.spawn time (Tree.reset time t)))
-      hooks None = (0, omega arith, spawns)
-      hooks (Some n) = (1, omega arith, λ _. (0, omega arith, spawns))
-
-  launched_always : {O : Type 0} (Fine : O → Type 0) (time : ℕ) (t : TaskView) (outcome : Result ⊤ Fault → O) → ((r : Result ⊤ Fault) → Fine (outcome r)) → Free t → Always 1 (Ends Fine) (bind (Tree.reported (Tree.launch time t)) (λ x. done (x.0, outcome x.1)))
-  launched_always Fine time t outcome fine f = ended_always Fine Free 1 (Tree.launch time t) outcome fine free (launch_always time t f)
-
-  force_always : (n child began time : ℕ) (t : TaskView) → Free t → Always n (λ x. Free x.0) (Tree.end_by_force child began time t)
-  force_always n child began time t f = (n, omega arith, kills)
+  signal_fits : (s : CommandState) (signal : ℕ) (o : Outcome) (t : TaskView) (b : Books) → closes o ≡ false → owes o ≤ from_bool (orders c) → Timed c o → FitsTask 0 t b → Always (Carried c) b (Tree.signal_in s signal o t)
+  signal_fits (Running child began) signal o t b e l timed h = always_then moved R (Carried c) b (Tree.reported (Tree.send_signal child (Tree.sent_as signal) t)) (λ x. done (x.0, Tree.unless_faulted o x.1)) (reported_keeps R b (Tree.send_signal child (Tree.sent_as signal) t) (λ a. h)) (λ u x f. by u x.0 x.1 f)
     where
-      waits : (a : Result ProcessEnd Fault) → Free (Tree.waited began time t a).0
-      waits (Ok end) = f
-      waits (Err fault) = f
+      R : Books → TaskView × Result ⊤ Fault → Type 0
+      R u x = FitsTask 0 x.0 u
 
-      kills : (a : Result ⊤ Fault) → Always n (λ x. Free x.0) (Tree.killed child began time t a)
-      kills (Ok u) = (n, omega arith, waits)
-      kills (Err fault) = f
+      by : (u : Books) (t₁ : TaskView) (r : Result ⊤ Fault) → FitsTask 0 t₁ u → Carried c u (t₁, Tree.unless_faulted o r)
+      by u t₁ (Ok k) f = (f.0, rw e f.1, f.2, omega (arith, f.3, l), timed, λ g. cc)
+      by u t₁ (Err fault) f = carried 0 u t₁ Settled (omega arith) (refl, refl, refl) f
+  signal_fits s signal o t b e l timed h = carried 0 b t Settled (omega arith) (refl, refl, refl) h
 
-  yield_always : (held : Bool) (t : TaskView) → Always 0 Free (Tree.yielded held t)
-  yield_always false t = released
-  yield_always true t = (0, omega arith, λ _. released)
+  gracefully_fits : (signal grace : ℕ) (end : GraceEnd) (t : TaskView) (b : Books) → owes (Graced grace end) ≤ from_bool (orders c) → Timed c (Graced grace end) → FitsTask 0 t b → Always (Carried c) b (Tree.end_gracefully signal grace end t)
+  gracefully_fits signal grace end t b l timed h = always_then moved (λ u x. FitsTask 0 x u) (Carried c) b (Tree.resume t) _ (resume_fits 0 b t.foreground.paused t.state t h) (λ u t₁ f. signal_fits t₁.state signal (Graced grace end) t₁ u refl l timed f)
 
-  way_always : (t : TaskView) → Always 0 Free (Tree.make_way t)
-  way_always t = always_then 0 0 (λ _. ⊤) Free (Tree.resume t) Tree.yield (resume_always (λ _. ⊤) t.foreground.paused t.state t tt tt) (λ t₁ _. yield_always t₁.foreground.grant t₁)
+  delete_fits : (s : CommandState) (t : TaskView) (b : Books) → t.state ≡ s → Free 0 t b → Always (Carried c) b (Tree.delete_in s t)
+  delete_fits s t b e f = by s e
+    where
+      by : (s : CommandState) → t.state ≡ s → Always (Carried c) b (Tree.delete_in s t)
+      by (Running child began) e = λ a. (f.0.0, rw (f.0.1, e) (only_struck child), f.0.2, omega (arith, f.0.3), λ g. cc, λ g. f.1)
+      by s e = (f.0.0, cc, f.0.2, omega (arith, f.0.3), λ g. cc, λ g. f.1)
 
-  -- An outcome o of a control is fine: one that leaves the ticket to no timer always is.
-  module _ (Fine : Outcome → Type 0) (plain : (o : Outcome) → is_graced o ≡ false → Fine o) where
-    unless_fine : (o : Outcome) → Fine o → (r : Result ⊤ Fault) → Fine (Tree.unless_faulted o r)
-    unless_fine o f (Ok u) = f
-    unless_fine o f (Err fault) = plain Settled refl
+  -- it orders a start
+  module _ (ordered : orders c ≡ true) where
+    launched_fits : (time : ℕ) (o : Outcome) (t : TaskView) (b : Books) → Plain o → children t.state ≡ [] → Free 0 t b → Always (Carried c) b (Tree.launched time o t)
+    launched_fits time o t b p e f = always_then moved (λ u x. Free 1 x.0 u) (Carried c) b (Tree.reported (Tree.launch time t)) (λ x. done (x.0, o)) (reported_keeps (λ u x. Free 1 x.0 u) b (Tree.launch time t) (launch_fits 0 time t b e f)) (λ u x g. carried 1 u x.0 o (rw ordered (omega arith)) p g.0)
 
-    stop_always : (s : CommandState) (time : ℕ) (t : TaskView) → Free t → Always 1 (Ends Fine) (Tree.stop_in s time t)
-    stop_always (Running child began) time t f = ended_always Fine Free 1 (Tree.end_by_force child began time t) (Tree.unless_faulted Ended) (unless_fine Ended (plain Ended refl)) free (force_always 1 child began time t f)
-    stop_always s time t f = (free t f, plain Settled refl)
-
-    replace_always : (child began time : ℕ) (t : TaskView) → Free t → Always 1 (Ends Fine) (Tree.replace child began time t)
-    replace_always child began time t f = always_then 0 1 (λ x. Free x.0) _ (Tree.reported (Tree.end_by_force child began time t)) (Tree.replaced time) (reported_always Free 0 (Tree.end_by_force child began time t) (force_always 0 child began time t f)) by
+    replace_fits : (child began time : ℕ) (t : TaskView) (b : Books) → t.state ≡ Running child began → Free 0 t b → Always (Carried c) b (Tree.replace child began time t)
+    replace_fits child began time t b e f = always_then moved (Forced 0) (Carried c) b (Tree.reported (Tree.end_by_force child began time t)) (Tree.replaced time) (reported_keeps (Forced 0) b (Tree.end_by_force child began time t) (force_fits 0 child began time t b e f)) by
       where
-        by : (x : TaskView × Result ⊤ Fault) → Free x.0 → Always 1 (Ends Fine) (Tree.replaced time x)
-        by (t₁, Ok u) f₁ = launched_always Fine time t₁ (λ _. Ended) (λ _. plain Ended refl) f₁
-        by (t₁, Err fault) f₁ = (free t₁ f₁, plain Settled refl)
+        by : (u : Books) (x : TaskView × Result ⊤ Fault) → Forced 0 u x → Always (Carried c) u (Tree.replaced time x)
+        by u (t₁, Ok k) h = launched_fits time Ended t₁ u (refl, refl, refl) (h.1 refl) h.0
+        by u (t₁, Err fault) h = carried 0 u t₁ Settled (omega arith) (refl, refl, refl) h.0.0
 
-    restart_always : (s : CommandState) (time : ℕ) (t : TaskView) → Free t → Always 1 (Ends Fine) (Tree.restart_in s time t)
-    restart_always (Running child began) time t f = replace_always child began time t f
-    restart_always s time t f = (free t f, plain Settled refl)
+    restart_fits : (s : CommandState) (time : ℕ) (t : TaskView) (b : Books) → t.state ≡ s → Free 0 t b → Always (Carried c) b (Tree.restart_in s time t)
+    restart_fits (Running child began) time t b e f = replace_fits child began time t b e f
+    restart_fits s time t b e f = carried 0 b t Settled (omega arith) (refl, refl, refl) f.0
 
-    settled_always : (time : ℕ) (t : TaskView) → Free t → Always 1 (Ends Fine) (Tree.launched time Settled t)
-    settled_always time t f = launched_always Fine time t (λ _. Settled) (λ _. plain Settled refl) f
+    continue_fits : (s : CommandState) (time : ℕ) (t : TaskView) (b : Books) → t.state ≡ s → Free 0 t b → Always (Carried c) b (Tree.continue_in s time t)
+    continue_fits (Running child began) time t b e f = replace_fits child began time t b e f
+    continue_fits s time t b e f = launched_fits time Settled t b (refl, refl, refl) (rw e refl) f
 
-    continue_always : (s : CommandState) (time : ℕ) (t : TaskView) → Free t → Always 1 (Ends Fine) (Tree.continue_in s time t)
-    continue_always (Running child began) time t f = replace_always child began time t f
-    continue_always s time t f = settled_always time t f
+idle_ends : (c : Control) (b : Books) (t : TaskView) → FitsTask 0 t b → Carried c b (t, Settled)
+idle_ends c b t h = carried c 0 b t Settled (omega arith) (refl, refl, refl) h
 
-    signal_always : (s : CommandState) (n : ℕ) (o : Outcome) (t : TaskView) → Fine o → Granted t → Always 1 (Ends Fine) (Tree.signal_in s n o t)
-    signal_always (Running child began) n o t f h = ended_always Fine Granted 1 (Tree.send_signal child (Tree.sent_as n) t) (Tree.unless_faulted o) (unless_fine o f) (λ _ g. g) (1, omega arith, λ _. h)
-    signal_always s n o t f h = (h, plain Settled refl)
+-- what makes way goes on with the child as it is
+after_way : (c : Control) (t : TaskView) (b : Books) (f : TaskView → Course Outcome) → FitsTask 0 t b → ((u : Books) (t₁ : TaskView) → Free 0 t₁ u → Always (Carried c) u (f t₁)) → Always (Carried c) b (bind (Tree.make_way t) f)
+after_way c t b f h k = always_then moved (λ u x. Free 0 x u) (Carried c) b (Tree.make_way t) f (way_fits 0 t b h) k
 
-    gracefully_always : (n grace : ℕ) (end : GraceEnd) (t : TaskView) → Fine (Graced grace end) → Granted t → Always 1 (Ends Fine) (Tree.end_gracefully n grace end t)
-    gracefully_always n grace end t f h = always_then 0 1 Granted _ (Tree.resume t) _ (resume_always Granted t.foreground.paused t.state t h h) (λ t₁ g. signal_always t₁.state n (Graced grace end) t₁ f g)
+childless : (s : CommandState) → is_running s ≡ false → children s ≡ []
+childless (Running child began) e = cc e
+childless s e = refl
 
-    delete_always : (s : CommandState) (t : TaskView) → Free t → Always 1 (Ends Fine) (Tree.delete_in s t)
-    delete_always (Running child began) t f = (1, omega arith, λ _. (free t f, plain Closes refl))
-    delete_always s t f = (free t f, plain Closes refl)
+-- no grant is held where no child runs
+only_running : (grant running : Bool) → (grant ≡ true → running ≡ true) → running ≡ false → grant ≡ false
+only_running true running h e = cc (h refl, e)
+only_running false running h e = refl
 
-    joins_fine : (running : Bool) → Fine (if running then Joined else Settled)
-    joins_fine true = plain Joined refl
-    joins_fine false = plain Settled refl
+pub control_fits : (c : Control) (time : ℕ) (t : TaskView) (b : Books) → FitsTask 0 t b → Always (Carried c) b (Tree.control c time t)
+control_fits Start time t b h = by (is_running t.state) refl
+  where
+    by : (running : Bool) → is_running t.state ≡ running → Always (Carried Start) b (Tree.start_unless running time t)
+    by true e = idle_ends Start b t h
+    by false e = launched_fits Start refl time Settled t b (refl, refl, refl) (childless t.state e) (h, only_running t.foreground.grant (is_running t.state) h.0 e)
+control_fits Stop time t b h = after_way Stop t b (λ t₁. Tree.stop_in t₁.state time t₁) h (λ u t₁ f. stop_fits Stop t₁.state time t₁ u refl f)
+control_fits (GracefulStop signal grace) time t b h = gracefully_fits (GracefulStop signal grace) signal grace GraceEnds.Stop t b (omega arith) (λ _. refl) h
+control_fits TryRestart time t b h = after_way TryRestart t b (λ t₁. Tree.restart_in t₁.state time t₁) h (λ u t₁ f. restart_fits TryRestart refl t₁.state time t₁ u refl f)
+control_fits (TryGracefulRestart signal grace) time t b h = gracefully_fits (TryGracefulRestart signal grace) signal grace GraceEnds.Restart t b (omega arith) (λ _. refl) h
+control_fits ContinueTryGracefulRestart time t b h = after_way ContinueTryGracefulRestart t b (λ t₁. Tree.continue_in t₁.state time t₁) h (λ u t₁ f. continue_fits ContinueTryGracefulRestart refl t₁.state time t₁ u refl f)
+control_fits (Signal signal) time t b h = signal_fits (Signal signal) t.state signal Settled t b refl (omega arith) (λ g. cc) h
+control_fits Delete time t b h = always_then moved (λ u x. Free 0 x u) (Carried Delete) b (Tree.yield t) (λ t₁. Tree.delete_in t₁.state t₁) (yield_fits 0 t.foreground.grant t b h.1 h.2 h.3) (λ u t₁ f. delete_fits Delete t₁.state t₁ u refl f)
+control_fits NextEnding time t b h = by (is_running t.state)
+  where
+    by : (running : Bool) → Carried NextEnding b (t, if running then Joined else Settled)
+    by true = carried NextEnding 0 b t Joined (omega arith) (refl, refl, refl) h
+    by false = idle_ends NextEnding b t h
+control_fits (Func n) time t b h = λ a. carried (Func n) 0 (moved b (to_host (routine n t.state t.previous)) a) t Settled (omega arith) (refl, refl, refl) h
+control_fits c time t b h = carried c 0 b t Settled (omega arith) (refl, refl, refl) h
 
-  not_graced : (c : Control) (o : Outcome) → is_graced o ≡ false → Timed c o
-  not_graced c o e f = cc
+-- THE POLL
 
-  pub control_always : (c : Control) (time : ℕ) (t : TaskView) → Granted t → Always 1 (Ends (Timed c)) (Tree.control c time t)
-  control_always Start time t h = by (is_running t.state) h
-    where
-      by : (running : Bool) → Fits t.foreground.grant running → Always 1 (Ends (Timed Start)) (Tree.start_unless running time t)
-      by true i = (h, not_graced Start Settled refl)
-      by false i = settled_always (Timed Start) (not_graced Start) time t (λ running. launched t.foreground.grant running i)
-  control_always Stop time t h = always_then 0 1 Free _ (Tree.make_way t) _ (way_always t) (λ t₁. stop_always (Timed Stop) (not_graced Stop) t₁.state time t₁)
-  control_always (GracefulStop n grace) time t h = gracefully_always (Timed (GracefulStop n grace)) (not_graced (GracefulStop n grace)) n grace GraceEnds.Stop t (λ _. refl) h
-  control_always TryRestart time t h = always_then 0 1 Free _ (Tree.make_way t) _ (way_always t) (λ t₁. restart_always (Timed TryRestart) (not_graced TryRestart) t₁.state time t₁)
-  control_always (TryGracefulRestart n grace) time t h = gracefully_always (Timed (TryGracefulRestart n grace)) (not_graced (TryGracefulRestart n grace)) n grace GraceEnds.Restart t (λ _. refl) h
-  control_always ContinueTryGracefulRestart time t h = always_then 0 1 Free _ (Tree.make_way t) _ (way_always t) (λ t₁. continue_always (Timed ContinueTryGracefulRestart) (not_graced ContinueTryGracefulRestart) t₁.state time t₁)
-  control_always (Signal n) time t h = signal_always (Timed (Signal n)) (not_graced (Signal n)) t.state n Settled t (not_graced (Signal n) Settled refl) h
-  control_always Delete time t h = always_then 0 1 Free _ (Tree.yield t) _ (yield_always t.foreground.grant t) (λ t₁. delete_always (Timed Delete) (not_graced Delete) t₁.state t₁)
-  control_always NextEnding time t h = (h, joins_fine (Timed NextEnding) (not_graced NextEnding) (is_running t.state))
-  control_always (Func n) time t h = (1, omega arith, λ _. (h, not_graced (Func n) Settled refl))
-  control_always c time t h = (h, not_graced c Settled refl)
+-- whether it found the child's end
+abbrev pub found_end : PollOutcome → Bool
+found_end Over = true
+found_end Renewed = true
+found_end o = false
 
-  follow_always : (restart : Bool) (time : ℕ) (t : TaskView) → Free t → Always 1 (Ends (λ _. ⊤)) (Tree.follow restart time t)
-  follow_always false time t f = (free t f, tt)
-  follow_always true time t f = launched_always (λ _. ⊤) time t (λ r. if is_ok r then Renewed else Over) (λ _. tt) f
+-- at the end of a poll the books fit the task; a start is tried only if a restart was remembered and the child has ended
+abbrev pub Polled : Bool → Books → TaskView × PollOutcome → Type 0
+Polled restart b x = FitsTask (from_bool (restart && found_end x.1)) x.0 b
 
-  pub poll_always : (restart : Bool) (time : ℕ) (t : TaskView) → Granted t → Always 1 (Ends (λ _. ⊤)) (Tree.poll_child restart time t)
-  poll_always restart time t h = by t.state
-    where
-      polls : (began : ℕ) (a : Result (Option ProcessEnd) Fault) → Always 1 (Ends (λ _. ⊤)) (Tree.polled restart began time t a)
-      polls began (Ok None) = (h, tt)
-      polls began (Ok (Some end)) =
-          let ended = Tree.in_state (Finished end began time) t in
-          always_then 0 1 Free _ (Tree.yield ended) _ (yield_always t.foreground.grant ended) (follow_always restart time)
-      polls began (Err fault) = always_then 0 1 (λ _. ⊤) _ (Tree.told t.settings.handler (Err fault)) _ (told_always (Err fault) t.settings.handler) (λ _ _. (h, tt))
+follow_fits : (restart : Bool) (time : ℕ) (t : TaskView) (b : Books) → children t.state ≡ [] → Free 0 t b → Always (Polled restart) b (Tree.follow restart time t)
+follow_fits false time t b e f = f.0
+follow_fits true time t b e f = always_then moved (λ u x. Free 1 x.0 u) (Polled true) b (Tree.reported (Tree.launch time t)) (λ x. done (x.0, if is_ok x.1 then Renewed else Over)) (reported_keeps (λ u x. Free 1 x.0 u) b (Tree.launch time t) (launch_fits 0 time t b e f)) (λ u x g. by u x.0 x.1 g.0)
+  where
+    by : (u : Books) (t₁ : TaskView) (r : Result ⊤ Fault) → FitsTask 1 t₁ u → Polled true u (t₁, if is_ok r then Renewed else Over)
+    by u t₁ (Ok k) g = g
+    by u t₁ (Err fault) g = g
 
-      by : (s : CommandState) → Always 1 (Ends (λ _. ⊤)) (Tree.poll_in s restart time t)
-      by (Running child began) = (1, omega arith, polls began)
-      by s = (h, tt)
+pub poll_fits : (restart : Bool) (time : ℕ) (t : TaskView) (b : Books) → FitsTask 0 t b → Always (Polled restart) b (Tree.poll_child restart time t)
+poll_fits restart time t b h = by t.state refl
+  where
+    more : (u : Books) (o : PollOutcome) → FitsTask 0 t u → Polled restart u (t, o)
+    more u o f = (f.0, f.1, f.2, omega (arith, f.3))
+
+    polls : (child began : ℕ) → t.state ≡ Running child began → (a : Result (Option ProcessEnd) Fault) → Always (Polled restart) (moved b (to_host (poll child)) a) (Tree.polled restart began time t a)
+    polls child began e (Ok None) = more b Idle h
+    polls child began e (Ok (Some end)) =
+        let t₁ = Tree.in_state (Finished end began time) t in
+        let u = moved b (to_host (poll child)) (Ok (Some end)) in
+        always_then moved (λ w x. Free 0 x w × (children x.state ≡ [])) (Polled restart) u (Tree.yield t₁) (Tree.follow restart time) (yields t.foreground.grant u (rw (h.1, e) (only_struck child)) h.2 h.3) (λ w t₂ f. follow_fits restart time t₂ w f.1 f.0)
+      where
+        t₁ : TaskView
+        t₁ = Tree.in_state (Finished end began time) t
+
+        yields : (held : Bool) (w : Books) → w.roster ≡ [] → w.grants ≡ from_bool held → w.tried ≤ 0 → Always (λ w x. Free 0 x w × (children x.state ≡ [])) w (Tree.yielded held t₁)
+        yields false w r g l = (yield_fits 0 false t₁ w r g l, refl)
+        yields true w r g l = λ a. (yield_fits 0 true t₁ w r g l a, refl)
+    polls child began e (Err fault) = always_then moved (λ u _. FitsTask 0 t u) (Polled restart) (moved b (to_host (poll child)) (Err fault)) (Tree.told t.settings.handler (Err fault)) (λ _. done (t, Faulted)) (told_keeps (λ u. FitsTask 0 t u) b t.settings.handler (Err fault) h) (λ u _ f. more u Faulted f)
+
+    by : (s : CommandState) → t.state ≡ s → Always (Polled restart) b (Tree.poll_in s restart time t)
+    by (Running child began) e = λ a. polls child began e a
+    by s e = more b Idle h
+
+-- PAUSES
+
+-- they fit while the child runs
+abbrev FitsRunning : Books → TaskView → Type 0
+FitsRunning b t = FitsTask 0 t b × (is_running t.state ≡ true)
+
+try_fits : (wanted : Bool) (own child : ℕ) (t : TaskView) (b : Books) → (wanted ≡ true → t.foreground.grant ≡ false) → FitsRunning b t → Always FitsRunning b (Tree.try_grant_if wanted own child t)
+try_fits false own child t b g h = h
+try_fits true own child t b g h = λ group. tries (Tree.is_ours own child group)
+  where
+    acquires : (a : Result ⊤ Fault) → FitsRunning (moved b (to_terminal (acquire child)) a) (Tree.acquired t a)
+    acquires (Ok u) = ((λ _. h.1, h.0.1, refl, h.0.3), h.1)
+    acquires (Err fault) = h
+
+    tries : (ours : Bool) → Always FitsRunning b (Tree.acquire_if ours child t)
+    tries true = λ a. acquires a
+    tries false = h
+
+take_fits : (own child signal : ℕ) (t : TaskView) (b : Books) → FitsRunning b t → Always FitsRunning b (Tree.take_pause own child signal t)
+take_fits own child signal t b h = by (signal == 18) (signal == 21 || signal == 22)
+  where
+    wants : (wanted held : Bool) → wanted && not held ≡ true → held ≡ false
+    wants true true e = cc e
+    wants false true e = cc e
+    wants wanted false e = refl
+
+    conts : (u : Books) (t₁ : TaskView) (a : Result ⊤ Fault) → FitsRunning u t₁ → FitsRunning (moved u (to_host (cont child)) a) (Tree.continued signal t₁ a)
+    conts u t₁ (Ok k) f = f
+    conts u t₁ (Err fault) f = f
+
+    continues : (wanted : Bool) → Always FitsRunning b (Tree.terminal_wanted wanted own child signal t)
+    continues false = h
+    continues true = always_then moved FitsRunning FitsRunning b (Tree.try_grant_if (not t.foreground.grant) own child t) _ (try_fits (not t.foreground.grant) own child t b (wants true t.foreground.grant) h) (λ u t₁ f a. conts u t₁ a f)
+
+    begins : (held : Bool) → Always FitsRunning b (Tree.pause_begun held signal t)
+    begins false = h
+    begins true = λ a. ((unheld t.state, h.0.1, refl, h.0.3), h.1)
+
+    by : (goes wants_terminal : Bool) → Always FitsRunning b (if goes then Tree.pause_ended own child t else if wants_terminal then Tree.terminal_wanted (wants_grant t.command) own child signal t else Tree.pause_begun t.foreground.grant signal t)
+    by true w = try_fits (wants_grant t.command && not t.foreground.grant) own child (Tree.not_paused t) b (wants (wants_grant t.command) t.foreground.grant) h
+    by false true = continues (wants_grant t.command)
+    by false false = begins t.foreground.grant
+
+-- books that fit the task fit it at the end of a pause step, and no start is tried
+pub pause_fits : (own : ℕ) (t : TaskView) (b : Books) → FitsTask 0 t b → Always (λ u x. FitsTask 0 x.0 u) b (Tree.pause own t)
+pause_fits own t b h = by t.state t.foreground.pauses refl
+  where
+    by : (s : CommandState) (signals : List ℕ) → t.state ≡ s → Always (λ u x. FitsTask 0 x.0 u) b (Tree.pause_in s signals own t)
+    by (Running child began) (signal ∷ rest) e = always_then moved FitsRunning (λ u x. FitsTask 0 x.0 u) b (Tree.take_pause own child signal (Tree.with_pauses rest t)) (λ t₁. done (t₁, Some signal)) (take_fits own child signal (Tree.with_pauses rest t) b (h, rw e refl)) (λ u t₁ f. f.0)
+    by s signals e = h

@@ -322,6 +322,11 @@ is_graced o = false
 abbrev pub Timed : Control → Outcome → Type 0
 Timed c o = is_graced o ≡ true → sets_timer c ≡ true
 
+-- the children of a state: the one that runs, if one does
+abbrev pub children : CommandState → List ℕ
+children (Running child began) = child ∷ []
+children s = []
+
 -- a grant is held only while a child runs
 abbrev pub Granted : TaskView → Type 0
 Granted t = t.foreground.grant ≡ true → is_running t.state ≡ true

@@ -5,12 +5,10 @@ use Rattle.supervisor.specs.declared.answers.StepKind.TheVariants.{Child}
 use Rattle.supervisor.specs.Job.{watched}
 use Rattle.supervisor.specs.Steps.{job_view}
 use Rattle.supervisor.specs.Timers.{memory}
-use Rattle.std.specs.Prelude.{⊤}
 use Rattle.host.specs.Interaction.{Answered}
-use Rattle.task.specs.Task.{Granted, poll_child}
+use Rattle.task.specs.Task.{poll_child}
 use Rattle.task.specs.View.{task_view}
-use Rattle.task.proofs.Always.{always_ends}
-use Rattle.task.proofs.Grants.{poll_granted}
+use Rattle.task.proofs.Traced.{poll_traced, fitting}
 use Rattle.task.proofs.Sheets.{at_value, then_done}
 use Rattle.supervisor.proofs.Mailboxes.{after_poll_in}
 use Rattle.supervisor.proofs.Graces.{child_accepted}
@@ -28,7 +26,7 @@ invariant_of-self-clause-granted g c =
     let t = task_view c.args.self.now.task in
     let restart = c.is_some-restart.result in
     let run = c.in-Some.ensures.1 in
-    (always_ends (Answered g.H.Host g.T.Terminal) (λ x. Granted x.0 × ⊤) (poll_child restart c.args.time t) _ _ run.trace _ (poll_granted restart c.args.time t c.args.self.now.granted) run.traces).0
+    (poll_traced (Answered g.H.Host g.T.Terminal) t c.args.self.now.granted restart c.args.time _ _ run.trace _ run.traces _ _ (fitting t)).0
 
 pub returns-clause-stepped : goal.returns-clause-stepped
 returns-clause-stepped g c =

@@ -1,11 +1,10 @@
 -- A control step keeps what holds of every job, and is accepted.
-use Rattle.std.proofs.Common.{[], sym, refl, arith}
+use Rattle.std.proofs.Common.{◌≡◌, true, false, [], sym, refl, ◌∙◌, arith}
 use Rattle.std.proofs.lemmas.Bool.Decides.{nat_tests}
 use Rattle.host.specs.Interaction.{Answered}
-use Rattle.task.specs.Task.{Granted, Timed, control}
+use Rattle.task.specs.Task.{Granted, Timed, closes, control}
 use Rattle.task.specs.View.{task_view}
-use Rattle.task.proofs.Always.{always_ends}
-use Rattle.task.proofs.Grants.{control_granted}
+use Rattle.task.proofs.Traced.{control_traced, fitting}
 use Rattle.task.proofs.Sheets.{then_done, silent}
 use Rattle.supervisor.specs.declared.answers.StepKind.TheVariants.{Control}
 use Rattle.supervisor.specs.Job.{carried}
@@ -23,12 +22,13 @@ settle-requires-clause-room g c =
     ending_room _ _ (take_in c.args.time _ c.in-Some.received _ (c.args.self.now.in_order (grind (arith, nat_tests))) c.in-Some.ensures.taken).order
 
 -- what holds at the end of the control that was taken
-ends : (g : Over) (c : goal.After-closes-self g) → Granted (task_view c.control.new.task) × Timed c.in-Some.received.message.control c.in-Some-control.outcome
+ends : (g : Over) (c : goal.After-closes-self g) → Granted (task_view c.control.new.task) × Timed c.in-Some.received.message.control c.in-Some-control.outcome × (closes c.in-Some-control.outcome ≡ true → (task_view c.control.new.task).foreground.grant ≡ false)
 ends g c =
     let t = task_view c.args.self.now.task in
     let done = c.in-Some.received.message.control in
     let run = c.in-Some-control.ensures.1 in
-    always_ends (Answered g.H.Host g.T.Terminal) (λ x. Granted x.0 × Timed done x.1) (control done c.args.time t) _ _ run.trace _ (control_granted done c.args.time t c.args.self.now.granted) run.traces
+    let end = control_traced (Answered g.H.Host g.T.Terminal) t c.args.self.now.granted done c.args.time _ _ run.trace _ run.traces _ _ (fitting t) in
+    (end.0, end.4, end.5)
 
 in_order : (g : Over) (c : goal.After-closes-self g) → InOrder [] (mailbox_view c.settle.new.self)
 in_order g c =
@@ -43,6 +43,9 @@ invariant_of-self-2-clause-full g c = (in_order g c).full
 
 pub invariant_of-self-2-clause-granted : goal.invariant_of-self-2-clause-granted
 invariant_of-self-2-clause-granted g c = (ends g c).0
+
+pub invariant_of-self-2-clause-yielded : goal.invariant_of-self-2-clause-yielded
+invariant_of-self-2-clause-yielded g c e = (ends g c).2 (sym c.closes-self.ensures ∙ e)
 
 pub returns-in_default-clause-stepped : goal.returns-in_default-clause-stepped
 returns-in_default-clause-stepped g c =

@@ -9,8 +9,7 @@ use Rattle.task.specs.Conducts.{Offered}
 use Rattle.task.specs.Task as Tree
 use Rattle.task.specs.Task.{Granted}
 use Rattle.task.specs.View.{task_view}
-use Rattle.task.proofs.Always.{always_tried}
-use Rattle.task.proofs.Pauses.{pause_granted}
+use Rattle.task.proofs.Traced.{pause_traced, fitting}
 use Rattle.task.proofs.Sheets.{then_done}
 use Rattle.supervisor.specs.declared.answers.StepKind.TheVariants.{Pause}
 use Rattle.supervisor.specs.Job.{pause_taken}
@@ -23,7 +22,7 @@ kept : {H T : Type 0} (by_host : Host.Ghosts H) (by_terminal : Terminal.Ghosts T
 kept by_host by_terminal own k k' w w' xs ys None h o = rw o.1 h
 kept by_host by_terminal own k k' w w' xs ys (Some x) h o =
     let run = o.1 in
-    (always_tried (Answered by_host by_terminal) 0 (λ x. Granted x.0) (Tree.pause own (task_view k)) w w' run.trace (task_view k', x.0) (pause_granted own (task_view k) h) run.traces).0
+    (pause_traced (Answered by_host by_terminal) (task_view k) h own w w' run.trace (task_view k', x.0) run.traces _ _ (fitting (task_view k))).0
 
 pub invariant_of-self-clause-granted : goal.invariant_of-self-clause-granted
 invariant_of-self-clause-granted g c = kept g.H.Host g.T.Terminal _ _ _ _ _ _ _ c.pause.result c.args.self.now.granted c.pause.ensures

@@ -1,5 +1,5 @@
 -- A send leaves the mailbox in order, and a refused one the job as it was.
-use Rattle.std.proofs.Common.{◌≡◌, ℕ, ◌≤◌, ◌^◌, false, [], Ok, Err, Result, ap, arith}
+use Rattle.std.proofs.Common.{◌≡◌, ℕ, ◌≤◌, ◌^◌, true, false, [], Ok, Err, Result, ap, arith}
 use Rattle.std.specs.Result.{OnErr}
 use Rattle.std.proofs.Props.{props}
 use Rattle.task.specs.Task.{Granted}
@@ -13,14 +13,15 @@ use Rattle.supervisor.proofs.Mailboxes.{send_in}
 use Rattle.supervisor.proofs.job.Job.send.Goals as goal
 
 -- a job whose mailbox is the same where a send is refused is then the same
-kept : (r : Result ℕ Refusal) (j : Job) (m : Mailbox) → OnErr r (m ≡ j.mailbox) → (o : j.closed ≡ false → InOrder [] (mailbox_view m)) (f : Full (mailbox_view m)) (g : Granted (task_view j.task)) (t : j.clock ≤ 2 ^ 62) → OnErr r (record j { mailbox = m; in_order = o; full = f; granted = g; timely = t } ≡ j)
-kept (Ok x) j m e = λ _ _ _ _. tt
-kept (Err x) j m e = rw e (λ o f g t.
+kept : (r : Result ℕ Refusal) (j : Job) (m : Mailbox) → OnErr r (m ≡ j.mailbox) → (o : j.closed ≡ false → InOrder [] (mailbox_view m)) (f : Full (mailbox_view m)) (g : Granted (task_view j.task)) (y : j.closed ≡ true → (task_view j.task).foreground.grant ≡ false) (t : j.clock ≤ 2 ^ 62) → OnErr r (record j { mailbox = m; in_order = o; full = f; granted = g; yielded = y; timely = t } ≡ j)
+kept (Ok x) j m e = λ _ _ _ _ _. tt
+kept (Err x) j m e = rw e (λ o f g y t.
     let p : o ≡ j.in_order = hlevel props in
     let q : f ≡ j.full = hlevel props in
     let r : g ≡ j.granted = hlevel props in
-    let s : t ≡ j.timely = hlevel props in
-    rw (p, q, r, s))
+    let s : y ≡ j.yielded = hlevel props in
+    let u : t ≡ j.timely = hlevel props in
+    rw (p, q, r, s, u))
 
 pub invariant_of-self-clause-in_order : goal.invariant_of-self-clause-in_order
 invariant_of-self-clause-in_order c e = rw (ap (λ x. x.0) c.send.ensures.answer) (rw (c.priority.ensures, c.into.ensures) (send_in c.args.send _ (c.args.self.now.in_order e)))
@@ -29,4 +30,4 @@ pub invariant_of-self-clause-full : goal.invariant_of-self-clause-full
 invariant_of-self-clause-full c = (invariant_of-self-clause-in_order c c.if-self.false).full
 
 pub returns : goal.returns
-returns c = record { answer = grind arith; unchanged = kept _ _ _ c.send.ensures.unchanged _ _ _ _ }
+returns c = record { answer = grind arith; unchanged = kept _ _ _ c.send.ensures.unchanged _ _ _ _ _ }
