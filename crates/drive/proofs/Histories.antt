@@ -5,15 +5,15 @@ use Rattle.std.proofs.lemmas.Grind.{common_steps}
 use Rattle.host.specs.declared.process.Host as Host
 use Rattle.host.specs.declared.terminal.Terminal as Terminal
 use Rattle.supervisor.specs.declared.errors.Refusal.{Refusal}
-use Rattle.supervisor.specs.Job.{tree_of}
 use Rattle.supervisor.specs.Steps.{Moment}
 use Rattle.drive.specs.declared.calls.Call.{Call}
-use Rattle.drive.specs.declared.calls.Call.TheVariants.{Step}
 use Rattle.drive.specs.declared.calls.Done.{Done}
 use Rattle.drive.specs.declared.calls.Tally.{Tally}
 use Rattle.drive.specs.Calls.{Makes}
-use Rattle.drive.specs.Runs.{Turn, Linked, answers_of, tried_in, ordered_in, Completes}
-use Rattle.drive.proofs.Steps.{step_few, step-spawns}
+use Rattle.drive.specs.Turns.{Turn, Linked, answers_of, tried_in, ordered_in}
+use Rattle.drive.specs.Runs.{Completes}
+use Rattle.drive.proofs.Laws.{laws, restarts}
+use Rattle.drive.proofs.Steps.{makes_few, makes-spawns}
 
 -- ONE MORE
 
@@ -33,19 +33,9 @@ written_more rs xs i y e l = grind (arith, common_steps, drop_more xs i (Ok 0) l
 -- THE RUN SO FAR
 
 module _ {H T : Type 0} (by_host : Host.Ghosts H) (by_terminal : Terminal.Ghosts T) where
-  -- a call tries at most one start, and takes at most one order
-  makes_few : (c : Call) (a : Moment H T) (d : Done) (b : Moment H T) → Makes by_host by_terminal c a d b → (d.tally.tried ≤ 1) × (d.tally.ordered ≤ 1)
-  makes_few (Step kind time) a d b r = rw r.does (step_few by_host by_terminal (tree_of kind (by_terminal.book a.terminal).own) time a b r.answer r.step)
-  makes_few c a d b r = grind arith
-
-  -- and the host's count of spawns grows by the starts tried
-  makes-spawns : (c : Call) (a : Moment H T) (d : Done) (b : Moment H T) → Makes by_host by_terminal c a d b → (by_host.book b.host).spawns % 2 ^ 64 ≡ ((by_host.book a.host).spawns + d.tally.tried) % 2 ^ 64
-  makes-spawns (Step kind time) a d b r = rw r.does (step-spawns by_host by_terminal (tree_of kind (by_terminal.book a.terminal).own) time a b r.answer r.step)
-  makes-spawns c a d b r = grind arith
-
   linked-spawns : (cs : List Call) (a : Moment H T) (ts : List (Turn (Moment H T))) (b : Moment H T) → Linked (Makes by_host by_terminal) cs a ts b → (by_host.book b.host).spawns % 2 ^ 64 ≡ ((by_host.book a.host).spawns + tried_in ts) % 2 ^ 64
   linked-spawns [] a ts b h = grind arith
-  linked-spawns (c ∷ cs) a ts b h = grind (arith, common_steps, linked-spawns cs h.0.at h.1 b h.4, makes-spawns c a h.0.did h.0.at h.3)
+  linked-spawns (c ∷ cs) a ts b h = grind (arith, common_steps, linked-spawns cs h.0.at h.1 b h.4, makes-spawns by_host by_terminal c a h.0.did h.0.at h.3)
 
   -- the first i calls were made, with at most one start and one order each
   pub record SoFar (calls : List Call) (i : ℕ) (a : Moment H T) (xs : List (Result ℕ Refusal)) (tried ordered : ℕ) (b : Moment H T) (ys : List (Result ℕ Refusal)) : Type 0 where
@@ -62,7 +52,7 @@ module _ {H T : Type 0} (by_host : Host.Ghosts H) (by_terminal : Terminal.Ghosts
 
   pub one_more : {calls : List Call} {i : ℕ} {a : Moment H T} {xs : List (Result ℕ Refusal)} {m n : ℕ} {b : Moment H T} {ys : List (Result ℕ Refusal)} (z : Call) (t : Turn (Moment H T)) → i < length calls → i < length xs → SoFar calls i a xs m n b ys → Makes by_host by_terminal (get_or calls i z) b t.did t.at → SoFar calls (i + 1) a xs (m + t.did.tally.tried) (n + t.did.tally.ordered) t.at (set ys i t.did.answer)
   one_more {calls} {i} {a} {xs} {m} {n} {b} {ys} z t l k h r =
-      let few : (t.did.tally.tried ≤ 1) × (t.did.tally.ordered ≤ 1) = makes_few (get_or calls i z) b t.did t.at r in
+      let few : (t.did.tally.tried ≤ 1) × (t.did.tally.ordered ≤ 1) = makes_few by_host by_terminal (get_or calls i z) b t.did t.at r in
       let count : length (answers_of h.turns) ≡ i = omega (arith, linked-length (Makes by_host by_terminal) (take i calls) a h.turns b h.linked, length-take i calls) in
       record {
         turns = h.turns ++ t ∷ [];
@@ -84,5 +74,7 @@ module _ {H T : Type 0} (by_host : Host.Ghosts H) (by_terminal : Terminal.Ghosts
         answers = cc;
         tried = h.tried_is;
         ordered = h.ordered_is;
+        laws = laws by_host by_terminal calls a h.turns b all;
+        restarts = restarts by_host by_terminal calls a h.turns b all;
         spawned = grind (arith, linked-spawns calls a h.turns b all);
       }
