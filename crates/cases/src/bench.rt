@@ -1,9 +1,11 @@
-// A job on the prepared host and the absent terminal, and what is expected of each of its calls.
+// A job on a host and a terminal, mostly the prepared host and the absent terminal, and what is expected of each of its calls.
 use drive::calls::{Call, Done};
 use drive::runs::make;
 use foreground::absent::AbsentTerminal;
-use host::journal::Record;
+use host::journal::{Answer, CallKind, Record};
+use host::process::Host;
 use host::state::{CommandState, ProcessEnd};
+use host::terminal::Terminal;
 use hosts::prepared::PreparedHost;
 use std::process::Abort;
 use supervisor::answers::StepKind;
@@ -25,6 +27,14 @@ pub const WAIT: Line = [3, 100, 0, 2009];
 
 pub const SPAWN: Line = [1, 0, 0, 101];
 
+// What fills the places of a sheet before a step: no call has such a record.
+pub const UNTOUCHED: Record = Record {
+    call: CallKind::Spawn,
+    child: 9,
+    number: 9,
+    answer: Answer::Nothing,
+};
+
 // A graceful stop and a graceful restart: the first sends 15.
 pub const GRACEFUL_STOP: Control = Control::GracefulStop {
     signal: 0,
@@ -36,7 +46,7 @@ pub const GRACEFUL_RESTART: Control = Control::TryGracefulRestart {
     grace: 500,
 };
 
-fn line(record: &Record) -> Line {
+pub(crate) fn line(record: &Record) -> Line {
     [
         i64::from(u8::from(record.call)),
         i64::from(record.child),
@@ -66,13 +76,13 @@ pub(crate) fn killed(started: u64, finished: u64) -> CommandState {
 }
 
 // A call, and what is expected of it: its answer, its records, whether it takes an order to start, and, for a step, the state after
-// it. The records are some lines, and behind them one that tells a fault, if it is told.
+// it. The records are some lines, and behind them one more, if there is a last one.
 #[derive(Clone, Copy)]
 pub struct Row<'a> {
     pub call: Call,
     pub answer: Result<u32, Refusal>,
     pub lines: &'a [Line],
-    pub told: Option<Line>,
+    pub last: Option<Line>,
     pub ordered: usize,
     pub state: Option<CommandState>,
 }
@@ -83,7 +93,7 @@ pub(crate) fn quiet<'a>(call: Call, answer: Result<u32, Refusal>) -> Row<'a> {
         call,
         answer,
         lines: &[],
-        told: None,
+        last: None,
         ordered: 0,
         state: None,
     }
@@ -153,8 +163,27 @@ pub(crate) fn polled(time: u64, progress: u32, lines: &[Line], state: CommandSta
     }
 }
 
+// A pause that is granted.
+pub(crate) fn pause<'a>(signal: u8) -> Row<'a> {
+    quiet(Call::Pause { signal }, Ok(0))
+}
+
+// A pause that is refused.
+pub(crate) fn unpaused<'a>(signal: u8, refusal: Refusal) -> Row<'a> {
+    quiet(Call::Pause { signal }, Err(refusal))
+}
+
+// A pause step with this progress.
+pub(crate) fn pause_step(time: u64, progress: u32, lines: &[Line], state: CommandState) -> Row<'_> {
+    Row {
+        lines,
+        state: Some(state),
+        ..quiet(step(StepKind::Pause, time), Ok(progress))
+    }
+}
+
 // The answers before and after, and then `rest` for each further call.
-fn answer_sheet(before: &[i64], after: &[i64], rest: i64) -> [i64; 16] {
+pub(crate) fn answer_sheet(before: &[i64], after: &[i64], rest: i64) -> [i64; 16] {
     let mut sheet = [rest; 16];
     for (place, answer) in sheet.iter_mut().zip(before.iter().chain(after)) {
         *place = *answer;
@@ -162,23 +191,36 @@ fn answer_sheet(before: &[i64], after: &[i64], rest: i64) -> [i64; 16] {
     sheet
 }
 
+// The prepared host, and a job on it and on no terminal.
+pub type Prepared = PreparedHost<[i64; 16]>;
+
+pub type Plain = Bench<Prepared, AbsentTerminal>;
+
 #[derive(Drop)]
-pub struct Bench {
+pub struct Bench<H, T> {
     pub job: Job,
-    host: PreparedHost<[i64; 16]>,
-    terminal: AbsentTerminal,
+    pub host: H,
+    pub terminal: T,
 }
 
-impl Bench {
-    // A fresh job of the program 1 with no options, on a host with these answers, and then `rest`.
-    fn new(before: &[i64], after: &[i64], rest: i64) -> Result<Self, Refusal> {
+impl<T: Terminal + Drop> Bench<Prepared, T> {
+    // A fresh job of the program 1 with these options, on this terminal and a host with these answers, and then `rest`.
+    pub(crate) fn new(
+        options: u8,
+        terminal: T,
+        before: &[i64],
+        after: &[i64],
+        rest: i64,
+    ) -> Result<Self, Refusal> {
         Ok(Bench {
-            job: Job::new(1, 0)?,
+            job: Job::new(1, options)?,
             host: PreparedHost::new(answer_sheet(before, after, rest)),
-            terminal: AbsentTerminal::new(),
+            terminal,
         })
     }
+}
 
+impl<H: Host + Drop, T: Terminal + Drop> Bench<H, T> {
     // Makes a call with this sheet.
     pub(crate) fn make(&mut self, call: Call, sheet: &mut [Record]) -> Done {
         make(
@@ -190,26 +232,28 @@ impl Bench {
         )
     }
 
-    // Makes the call of the row, and compares what it does; places behind the records stay blank.
+    // Makes the call of the row, and compares what it does; places behind the records stay as they were.
     pub(crate) fn check(&mut self, rt: &impl Abort, row: &Row) {
         let call = row.call;
-        let mut sheet = [Record::BLANK; 8];
+        let mut sheet = [UNTOUCHED; 8];
         let done = self.make(call, &mut sheet);
         assert_eq!(rt; done.answer, row.answer, "{call:?}");
         assert_eq!(rt; done.tally.ordered, row.ordered, "{call:?}");
         let calls = row.lines.len();
         for (i, record) in sheet.iter().enumerate() {
-            let behind = if i == calls { row.told } else { None };
-            let blank = behind.unwrap_or(line(&Record::BLANK));
-            let wanted = row.lines.get(i).copied().unwrap_or(blank);
+            let behind = if i == calls { row.last } else { None };
+            let after = behind.unwrap_or(line(&UNTOUCHED));
+            let wanted = row.lines.get(i).copied().unwrap_or(after);
             assert_eq!(rt; line(record), wanted, "record {i} of {call:?}");
         }
-        let told = usize::from(row.told.is_some());
+        let last = usize::from(row.last.is_some());
         assert_eq!(rt;
             done.records,
-            row.lines.len().saturating_add(told),
+            row.lines.len().saturating_add(last),
             "{call:?}"
         );
+        let tried = row.lines.iter().filter(|line| line[0] == 1).count();
+        assert_eq!(rt; done.tally.tried, tried, "{call:?}");
         if let Some(state) = row.state {
             assert_eq!(rt; self.job.state(), state, "{call:?}");
         }
@@ -263,12 +307,13 @@ impl Before {
         rt: &impl Abort,
         answers: &[i64],
         rest: i64,
-    ) -> Result<Bench, Refusal> {
-        let mut bench = match self {
-            Before::Pending => Bench::new(&[], answers, rest)?,
-            Before::Running => Bench::new(&[100], answers, rest)?,
-            Before::Finished => Bench::new(&[100, 1003], answers, rest)?,
+    ) -> Result<Plain, Refusal> {
+        let before: &[i64] = match self {
+            Before::Pending => &[],
+            Before::Running => &[100],
+            Before::Finished => &[100, 1003],
         };
+        let mut bench = Bench::new(0, AbsentTerminal::new(), before, answers, rest)?;
         let start = [
             sent(Send::Start, 1),
             ordered(10, &[[1, 0, 0, 100]], running(100, 10)),

@@ -113,7 +113,7 @@ impl Handler {
 // Takes the control of the case, which orders a start or not; its ticket is raised, whatever faults.
 fn try_case(rt: &impl Abort, case: &Case, handler: Handler, orders: usize) -> Result<(), Refusal> {
     let row = Row {
-        told: handler.tells(case.code),
+        last: handler.tells(case.code),
         ordered: orders,
         ..taken(30, case.lines, case.after)
     };
@@ -322,7 +322,7 @@ fn a_poll_faults(rt: HostRuntime) -> Result<(), Fail> {
             bench.take(&rt, HANDLED, &taken(20, &[], same), 1)?;
         }
         let row = Row {
-            told: handler.tells(Some(5)),
+            last: handler.tells(Some(5)),
             ..polled(30, 1, &[[2, 100, 0, -5]], same)
         };
         bench.check(&rt, &row);
