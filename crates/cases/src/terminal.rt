@@ -43,14 +43,28 @@ fn simulated(rt: &impl Abort) -> Result<Simulated, Refusal> {
 
 // A pause by this signal, and its step at this time with these lines; then this group has the foreground, by a grant or not.
 #[derive(Clone, Copy)]
-struct Paused<'a>(u8, u64, &'a [Line], Group, bool);
+struct Pausing<'a> {
+    signal: u8,
+    time: u64,
+    lines: &'a [Line],
+    foreground: Group,
+    granted: bool,
+}
 
-fn check_pause(rt: &impl Abort, bench: &mut Simulated, paused: Paused) {
-    let Paused(signal, time, lines, foreground, granted) = paused;
-    let state = bench.job.state();
-    let stepped = pause_step(time, 1, lines, state);
-    bench.check_all(rt, &[pause(signal), stepped]);
-    check_terminal(rt, &mut bench.terminal, Some(foreground), granted);
+fn paused(signal: u8, time: u64, lines: &[Line], foreground: Group, granted: bool) -> Pausing<'_> {
+    Pausing {
+        signal,
+        time,
+        lines,
+        foreground,
+        granted,
+    }
+}
+
+fn check_pause(rt: &impl Abort, bench: &mut Simulated, row: Pausing) {
+    let stepped = pause_step(row.time, 1, row.lines, bench.job.state());
+    bench.check_all(rt, &[pause(row.signal), stepped]);
+    check_terminal(rt, &mut bench.terminal, Some(row.foreground), row.granted);
 }
 
 // The child asks for the foreground, is stopped at the keyboard and continued, and exits.
@@ -59,16 +73,16 @@ fn a_child_gets_the_foreground_twice_and_ends(rt: HostRuntime) -> Result<(), Fai
     for handling in [Handling::Default, Handling::Ignored, Handling::Caught] {
         let mut bench = simulated(&rt)?;
         bench.terminal.set_handling(handling);
-        for paused in [
-            Paused(21, 20, &[GRANT[0], GRANT[1], CONT], CHILD, true),
-            Paused(20, 30, &[RELEASE], OWN, false),
-            Paused(18, 40, &GRANT, CHILD, true),
-            Paused(18, 41, &[], CHILD, true),
+        for row in [
+            paused(21, 20, &[GRANT[0], GRANT[1], CONT], CHILD, true),
+            paused(20, 30, &[RELEASE], OWN, false),
+            paused(18, 40, &GRANT, CHILD, true),
+            paused(18, 41, &[], CHILD, true),
         ] {
-            if paused.0 != 18 {
+            if row.signal != 18 {
                 assert!(rt; bench.host.stop(100));
             }
-            check_pause(&rt, &mut bench, paused);
+            check_pause(&rt, &mut bench, row);
             assert_eq!(rt; bench.job.state(), running(100, 10));
         }
         assert!(rt; bench.host.exit(100, 0));
@@ -91,13 +105,13 @@ fn a_child_gets_the_foreground_twice_and_ends(rt: HostRuntime) -> Result<(), Fai
 fn each_child_asks_for_the_foreground(rt: HostRuntime) -> Result<(), Fail> {
     let mut bench = simulated(&rt)?;
     let lines = [GRANT[0], GRANT[1], CONT];
-    check_pause(&rt, &mut bench, Paused(22, 20, &lines, CHILD, true));
+    check_pause(&rt, &mut bench, paused(22, 20, &lines, CHILD, true));
     bench.check(&rt, &sent(Send::TryRestart, 2));
     let lines = [RELEASE, KILL, WAIT, SPAWN];
     bench.check(&rt, &ordered(30, &lines, running(101, 30)));
     check_terminal(&rt, &mut bench.terminal, Some(OWN), false);
     let lines = [[11, 0, 0, 7], [12, 0, 101, 0], [6, 101, 0, 0]];
-    check_pause(&rt, &mut bench, Paused(22, 40, &lines, NEXT, true));
+    check_pause(&rt, &mut bench, paused(22, 40, &lines, NEXT, true));
     bench.check(&rt, &sent(Send::Delete, 4));
     let lines = [RELEASE, [4, 101, 0, 0], [3, 101, 0, 2009]];
     bench.check(&rt, &taken(50, &lines, killed(30, 50)));
@@ -125,7 +139,7 @@ fn a_stopped_child_ends_by_the_signal(rt: HostRuntime) -> Result<(), Fail> {
     let (signal, grace) = (0, 500);
     let mut bench = simulated(&rt)?;
     assert!(rt; bench.host.stop(100));
-    check_pause(&rt, &mut bench, Paused(19, 20, &[], OWN, false));
+    check_pause(&rt, &mut bench, paused(19, 20, &[], OWN, false));
     bench.check_all(
         &rt,
         &[
@@ -142,7 +156,7 @@ fn a_stopped_child_ends_by_the_signal(rt: HostRuntime) -> Result<(), Fail> {
 fn an_end_takes_the_foreground_back_from_another_group(rt: HostRuntime) -> Result<(), Fail> {
     for foreground in [None, Some(OTHER), Some(OWN)] {
         let mut bench = simulated(&rt)?;
-        check_pause(&rt, &mut bench, Paused(18, 20, &GRANT, CHILD, true));
+        check_pause(&rt, &mut bench, paused(18, 20, &GRANT, CHILD, true));
         bench.terminal.set_foreground(foreground);
         assert!(rt; bench.host.exit(100, 3));
         let lines = [[2, 100, 0, 1003], RELEASE];
