@@ -1,5 +1,5 @@
 -- How many records of a step pass a test, whatever host and terminal answer.
-use Rattle.std.proofs.Common.{◌≡◌, ℕ, ◌+◌, Bool, true, false, if◌then◌else◌, is_ok, Some, None, Ok, Err, Option, Result, List, refl, sym, subst, arith}
+use Rattle.std.proofs.Common.{◌≡◌, ℕ, ◌+◌, ◌*◌, zero-add, Bool, true, false, if◌then◌else◌, is_ok, Some, None, Ok, Err, Option, Result, List, refl, sym, subst, arith}
 use Rattle.std.specs.Prelude.{⊤}
 use Rattle.std.specs.List.{fold, count_by}
 use Rattle.std.proofs.lemmas.List.Folds.{fold-map}
@@ -11,6 +11,7 @@ use Rattle.host.specs.declared.state.CommandState.TheVariants.{Running, Finished
 use Rattle.host.specs.declared.journal.CallKind.TheVariants.{Spawn, Poll, Wait, Kill, Cont, Hook, Tell, Release}
 use Rattle.host.specs.declared.journal.Answer.{Answer}
 use Rattle.host.specs.declared.journal.Answer.TheVariants.{Nothing, End}
+use Rattle.host.specs.declared.journal.Answer.TheVariants as Answers
 use Rattle.host.specs.declared.journal.Record.{Record}
 use Rattle.host.specs.Calls.{Call, Reply, Event}
 use Rattle.host.specs.Interaction.{Interaction, done, bind, Traces}
@@ -22,7 +23,7 @@ use Rattle.task.specs.declared.task.PollOutcome.{PollOutcome}
 use Rattle.task.specs.declared.task.PollOutcome.TheVariants.{Over, Renewed}
 use Rattle.task.specs.Task as Tree
 use Rattle.task.specs.Task.{TaskView, Part, Course}
-use Rattle.supervisor.specs.Laws.{starts_or_fails, reports_end}
+use Rattle.supervisor.specs.Laws.{is_spawn, starts_or_fails, reports_end}
 
 -- one more record that passes q, or does not
 abbrev pub counted : (Record → Bool) → ℕ → (c : Call) → Reply c → ℕ
@@ -126,30 +127,56 @@ continue_counts time t = sums_then starts_or_fails (λ _. 0) (λ _. 1) 0 (Tree.m
 
 -- THE POLL
 
-passes_ends : Passes reports_end 0
-passes_ends = record { cont = λ child a. refl; release = refl; tell = λ code a. refl; hook = λ n a. refl; spawn = λ way a. refl }
-
 -- the ends that a poll found
 abbrev pub found_end : TaskView × PollOutcome → ℕ
 found_end (t, Over) = 1
 found_end (t, Renewed) = 1
 found_end (t, o) = 0
 
-follow_counts : (restart : Bool) (time : ℕ) (t : TaskView) → Sums reports_end found_end 1 (Tree.follow restart time t)
-follow_counts false time t = refl
-follow_counts true time t = launched_counts reports_end 0 passes_ends 1 time t (λ r. if is_ok r then Renewed else Over) found_end (λ x. grind (arith, common_steps))
+-- a test that counts n for a poll that reports an end, and passes over any other
+pub record PassesPoll (q : Record → Bool) (n : ℕ) : Type 0 where
+  pub end : (child : ℕ) (e : ProcessEnd) → (if q (entry Poll child 0 (End e)) then 1 else 0) ≡ n
+  pub going : (child : ℕ) → q (entry Poll child 0 Nothing) ≡ false
+  pub fault : (child : ℕ) (f : Fault) → q (entry Poll child 0 (Answers.Fault f)) ≡ false
 
--- the end of the child is found exactly if it was reported
-pub poll_counts : (restart : Bool) (time : ℕ) (t : TaskView) → Sums reports_end found_end 0 (Tree.poll_child restart time t)
-poll_counts restart time t = by t.state
-  where
-    polls : (child began : ℕ) (a : Result (Option ProcessEnd) Fault) → Sums reports_end found_end (0 + (if reports_end (entry Poll child 0 (or_fault (or_nothing End) a)) then 1 else 0)) (Tree.polled restart began time t a)
-    polls child began (Ok None) = refl
-    polls child began (Ok (Some end)) =
-        let t₀ = Tree.in_state (Finished end began time) t in
-        sums_then reports_end (λ _. 1) found_end 1 (Tree.yield t₀) (Tree.follow restart time) (yield_counts reports_end 0 passes_ends 1 t.foreground.grant t₀) (follow_counts restart time)
-    polls child began (Err fault) = sums_then reports_end (λ _. 0) found_end 0 (Tree.told t.settings.handler (Err fault)) _ (told_counts reports_end 0 passes_ends 0 t.settings.handler (Err fault)) (λ _. refl)
+module _ (q : Record → Bool) (s n : ℕ) (h : Passes q s) (k : PassesPoll q n) (restart : Bool) (time : ℕ) where
+  -- what is counted of a poll: its end, and the start that follows it
+  abbrev pub end_and_start : TaskView × PollOutcome → ℕ
+  end_and_start x = found_end x * (n + (if restart then s else 0))
 
-    by : (c : CommandState) → Sums reports_end found_end 0 (Tree.poll_in c restart time t)
-    by (Running child began) = λ a. polls child began a
-    by c = refl
+  follow_counts : (r : Bool) → restart ≡ r → (t : TaskView) → Sums q end_and_start n (Tree.follow r time t)
+  follow_counts false e t = grind (arith, e)
+  follow_counts true e t = launched_counts q s h n time t (λ r. if is_ok r then Renewed else Over) end_and_start (λ x. grind (arith, common_steps, e))
+
+  pub poll_counts : (t : TaskView) → Sums q end_and_start 0 (Tree.poll_child restart time t)
+  poll_counts t = by t.state
+    where
+      polls : (child began : ℕ) (a : Result (Option ProcessEnd) Fault) → Sums q end_and_start (0 + (if q (entry Poll child 0 (or_fault (or_nothing End) a)) then 1 else 0)) (Tree.polled restart began time t a)
+      polls child began (Ok None) = grind (arith, k.going child)
+      polls child began (Ok (Some end)) =
+          let t₀ = Tree.in_state (Finished end began time) t in
+          let yields : Sums q (λ _. n) (0 + (if q (entry Poll child 0 (End end)) then 1 else 0)) (Tree.yield t₀) = rw (k.end child end, zero-add n) (yield_counts q s h n t.foreground.grant t₀) in
+          sums_then q (λ _. n) end_and_start (0 + (if q (entry Poll child 0 (End end)) then 1 else 0)) (Tree.yield t₀) (Tree.follow restart time) yields (follow_counts restart refl)
+      polls child began (Err fault) =
+          let none : Sums q (λ _. 0) (0 + (if q (entry Poll child 0 (Answers.Fault fault)) then 1 else 0)) (Tree.told t.settings.handler (Err fault)) = rw (k.fault child fault) (told_counts q s h 0 t.settings.handler (Err fault)) in
+          sums_then q (λ _. 0) end_and_start (0 + (if q (entry Poll child 0 (Answers.Fault fault)) then 1 else 0)) (Tree.told t.settings.handler (Err fault)) _ none (λ _. grind arith)
+
+      by : (c : CommandState) → Sums q end_and_start 0 (Tree.poll_in c restart time t)
+      by (Running child began) = λ a. polls child began a
+      by c = grind arith
+
+pub passes_ends : Passes reports_end 0
+passes_ends = record { cont = λ child a. refl; release = refl; tell = λ code a. refl; hook = λ n a. refl; spawn = λ way a. refl }
+
+pub polls_ends : PassesPoll reports_end 1
+polls_ends = record { end = λ child e. refl; going = λ child. refl; fault = λ child f. refl }
+
+-- a record of a spawn
+abbrev pub spawns : Record → Bool
+spawns r = is_spawn r.call
+
+pub passes_spawns : Passes spawns 1
+passes_spawns = record { cont = λ child a. refl; release = refl; tell = λ code a. refl; hook = λ n a. refl; spawn = λ way a. refl }
+
+pub polls_spawns : PassesPoll spawns 0
+polls_spawns = record { end = λ child e. refl; going = λ child. refl; fault = λ child f. refl }

@@ -1,5 +1,5 @@
 -- The laws of graces, whatever host and terminal answer.
-use Rattle.std.proofs.Common.{◌≡◌, ℕ, ◌<◌, ◌≤◌, true, false, is_some, Some, None, Ok, Option, [], refl, sym, ◌∙◌, subst, arith}
+use Rattle.std.proofs.Common.{◌≡◌, ℕ, ◌+◌, ◌*◌, ◌<◌, ◌≤◌, Bool, true, false, if◌then◌else◌, is_some, Some, None, Ok, Option, [], refl, sym, ◌∙◌, subst, arith}
 use Rattle.std.specs.Prelude.{take}
 use Rattle.std.proofs.lemmas.Grind.{common_steps}
 use Rattle.tickets.specs.declared.flag.Mark.TheVariants.{Held, Raised}
@@ -32,7 +32,7 @@ use Rattle.supervisor.specs.Mailbox.{MailboxView, Taken, received, with_timer, s
 use Rattle.supervisor.specs.Sound.{InOrder}
 use Rattle.supervisor.specs.Steps.{Moment, job_view, stepping, Accepted}
 use Rattle.supervisor.specs.Timers.{timer_message, memory}
-use Rattle.supervisor.proofs.Counting.{Counts, counted, counts_traced, Sums, sums_then, continue_counts, poll_counts, found_end}
+use Rattle.supervisor.proofs.Counting.{Counts, counted, counts_traced, Sums, sums_then, continue_counts, poll_counts, found_end, end_and_start, passes_ends, polls_ends}
 use Rattle.supervisor.proofs.Mailboxes.{InHand, take_in}
 
 -- what is taken while the timer t is pending: its message once it is due, with which the timer is gone; before that another one,
@@ -82,7 +82,7 @@ control_law time v b h f = by (Mail.take time v.mailbox) refl
         (λ u x k. carried_law time v r n (take_in time v.mailbox r n h e) e x k.4)
 
 -- a timer that is due is taken
-take_now : (time : ℕ) (t : Timer) (m : MailboxView) → m.timer ≡ Some t → t.deadline ≤ time → Mail.take time m ≡ Some (received (timer_message t) Sources.Timer, with_timer None m)
+pub take_now : (time : ℕ) (t : Timer) (m : MailboxView) → m.timer ≡ Some t → t.deadline ≤ time → Mail.take time m ≡ Some (received (timer_message t) Sources.Timer, with_timer None m)
 take_now time t m e l = grind (arith, common_steps)
 
 -- the step that takes a restart's message tries one start, or ending the child faulted
@@ -133,7 +133,12 @@ end_law time v (k, o) t p l = absurd (omega (arith, l))
 child_law : (time : ℕ) (v : JobView) → Counts reports_end (λ ends s. EndLaw v ends s.view) 0 (child_step time v)
 child_law time v =
     let restart = is_some (memory v.mailbox.timer) in
-    always_then (counted reports_end) (λ i x. i ≡ found_end x) (λ ends s. EndLaw v ends s.view) 0 (Tree.poll_child restart time v.task) (λ x. done (watched time v x)) (poll_counts restart time v.task) (λ i x e. subst (λ (i : ℕ). EndLaw v i (watched time v x).view) (sym e) (end_law time v x))
+    let ends = end_and_start reports_end 0 1 passes_ends polls_ends restart time in
+    always_then (counted reports_end) (λ i x. i ≡ ends x) (λ ends s. EndLaw v ends s.view) 0 (Tree.poll_child restart time v.task) (λ x. done (watched time v x)) (poll_counts reports_end 0 1 passes_ends polls_ends restart time v.task) (λ i x e. subst (λ (i : ℕ). EndLaw v i (watched time v x).view) (sym (e ∙ only_ends restart (found_end x))) (end_law time v x))
+  where
+    only_ends : (restart : Bool) (n : ℕ) → n * (1 + (if restart then 0 else 0)) ≡ n
+    only_ends true n = grind arith
+    only_ends false n = grind arith
 
 -- ON THE SHEET
 

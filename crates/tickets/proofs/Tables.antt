@@ -128,6 +128,11 @@ raise_each-keeps s (t ∷ ts) es h = raise_each-keeps s ts (raise t es) (raise-k
 
 -- WHERE A TICKET IS
 
+-- a new ticket is found with its mark
+pub found-new : (t : ℕ) (mark : Mark) (es : Table) → 1 ≤ free_places es → weight is_taken (one_at t) es ≡ 0 → found t (put t mark es) ≡ Some mark
+found-new t mark [] room none = absurd (omega (arith, room))
+found-new t mark (e ∷ es) room none = grind (arith, common_steps, nat_tests, free-cons e es, found-new t mark es)
+
 -- another ticket stays as it is where one is issued, or leaves its place
 pub found-put : (s t : ℕ) (mark : Mark) (es : Table) → (s == t) ≡ false → found s (put t mark es) ≡ found s es
 found-put s t mark [] n = refl
