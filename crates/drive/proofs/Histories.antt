@@ -12,6 +12,8 @@ use Rattle.drive.specs.declared.calls.Tally.{Tally}
 use Rattle.drive.specs.Calls.{Makes}
 use Rattle.drive.specs.Turns.{Turn, Linked, answers_of, tried_in, ordered_in}
 use Rattle.drive.specs.Runs.{Completes}
+use Rattle.drive.proofs.Cases.{cases}
+use Rattle.drive.proofs.Followed.{originals}
 use Rattle.drive.proofs.Laws.{laws, restarts}
 use Rattle.drive.proofs.Steps.{makes_few, makes-spawns}
 
@@ -76,5 +78,7 @@ module _ {H T : Type 0} (by_host : Host.Ghosts H) (by_terminal : Terminal.Ghosts
         ordered = h.ordered_is;
         laws = laws by_host by_terminal calls a h.turns b all;
         restarts = restarts by_host by_terminal calls a h.turns b all;
+        originals = originals by_host by_terminal calls a h.turns b all;
+        cases = cases by_host by_terminal;
         spawned = grind (arith, linked-spawns calls a h.turns b all);
       }

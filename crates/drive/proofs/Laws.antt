@@ -34,9 +34,16 @@ in_one_place : (s : ℕ) (m : MailboxView) → InOrder [] m → places s m ≡ 1
 in_one_place s m h = omega (arith, h.balance (one_at s), one_standing s m.tickets.table (h.once s))
 
 -- calls that are linked by one relation are by another that follows from it
-linked_so : {M : Type 0} (R S : Call → M → Done → M → Type 0) → ((c : Call) (a : M) (d : Done) (b : M) → R c a d b → S c a d b) → (cs : List Call) (a : M) (ts : List (Turn M)) (b : M) → Linked R cs a ts b → Linked S cs a ts b
+pub linked_so : {M : Type 0} (R S : Call → M → Done → M → Type 0) → ((c : Call) (a : M) (d : Done) (b : M) → R c a d b → S c a d b) → (cs : List Call) (a : M) (ts : List (Turn M)) (b : M) → Linked R cs a ts b → Linked S cs a ts b
 linked_so R S k [] a ts b h = h
 linked_so R S k (c ∷ cs) a ts b h = (h.0, h.1, h.2, k c a h.0.did h.0.at h.3, linked_so R S k cs h.0.at h.1 b h.4)
+
+-- the first turn, and those behind it
+pub linked_first : {M : Type 0} (R : Call → M → Done → M → Type 0) (c : Call) (cs : List Call) (a : M) (t : Turn M) (ts : List (Turn M)) (b : M) → Linked R (c ∷ cs) a (t ∷ ts) b → R c a t.did t.at × Linked R cs t.at ts b
+linked_first R c cs a t ts b h =
+    let same : t ≡ h.0 = cc h.2 in
+    let others : ts ≡ h.1 = cc h.2 in
+    (rw same h.3, rw (same, others) h.4)
 
 module _ {H T : Type 0} (by_host : Host.Ghosts H) (by_terminal : Terminal.Ghosts T) where
   lawful : (first m n : ℕ) (a : Moment H T) → BooksFit by_host by_terminal a → m + owed (view a).mailbox.timer ≤ n + first → Lawful by_host by_terminal first m n a
@@ -90,8 +97,5 @@ module _ {H T : Type 0} (by_host : Host.Ghosts H) (by_terminal : Terminal.Ghosts
 
       after : (t : Timer) (time : ℕ) (rest : List Call) (first : Turn (Moment H T)) (later : List (Turn (Moment H T))) → RestartPends t (view a) → t.deadline ≤ time → is_ok first.did.answer ≡ true → Linked (Makes by_host by_terminal) (Step Control time ∷ rest) a (first ∷ later) b → tried_in later ≤ ordered_in later
       after t time rest first later p l k g =
-          let u = g.0 in
-          let same : first ≡ u = cc g.2 in
-          let others : later ≡ g.1 = cc g.2 in
-          let none = none_owed t time a u.did u.at p.0 l (rw same at k) g.3 in
-          rw others (omega (arith, linked_starts rest u.at g.1 b g.4, none))
+          let turn = linked_first (Makes by_host by_terminal) (Step Control time) rest a first later b g in
+          omega (arith, linked_starts rest first.at later b turn.1, none_owed t time a first.did first.at p.0 l k turn.0)

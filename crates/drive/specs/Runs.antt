@@ -8,13 +8,16 @@ use Rattle.supervisor.specs.Steps.{Moment}
 use Rattle.drive.specs.declared.calls.Call.{Call}
 use Rattle.drive.specs.declared.calls.Tally.{Tally}
 use Rattle.drive.specs.Calls.{Makes}
+use Rattle.drive.specs.Cases.{Cases}
 use Rattle.drive.specs.Turns.{Turn, Linked, answers_of, tried_in, ordered_in}
 use Rattle.drive.specs.Laws.{Laws}
 use Rattle.drive.specs.Restarts.{Restarts}
+use Rattle.drive.specs.Follows.{Originals}
 
 -- The calls were made one after the other from the moment a to the moment b: their answers stand in order at the front of the
 -- slice of answers, which behind them is what it was; the tally adds up what they did; the host's count of spawns grew by exactly
--- the starts tried; the laws of a run and of restarts hold.
+-- the starts tried; the laws of a run and of restarts hold; the run is the original's; and the
+-- worked cases hold of each call.
 pub record Completes {H T : Type 0} (by_host : Host.Ghosts H) (by_terminal : Terminal.Ghosts T) (calls : List Call) (a : Moment H T) (xs : List (Result ℕ Refusal)) (tally : Tally) (b : Moment H T) (ys : List (Result ℕ Refusal)) : Type 0 where
   pub turns : List (Turn (Moment H T))
   pub linked : Linked (Makes by_host by_terminal) calls a turns b
@@ -23,6 +26,8 @@ pub record Completes {H T : Type 0} (by_host : Host.Ghosts H) (by_terminal : Ter
   pub ordered : tally.ordered ≡ ordered_in turns
   pub laws : Laws by_host by_terminal calls a turns b
   pub restarts : Restarts calls a turns
+  pub originals : Originals by_host by_terminal calls a turns b
+  pub cases : Cases by_host by_terminal
   pub spawned : (by_host.book b.host).spawns % 2 ^ 64 ≡ ((by_host.book a.host).spawns + tally.tried) % 2 ^ 64
 
 -- a run is refused, and changes nothing, where there are fewer answers than calls
