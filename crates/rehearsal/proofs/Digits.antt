@@ -2,7 +2,7 @@
 use Rattle.std.proofs.Common.{◌≡◌, ℕ, ◌+◌, ◌-◌, ◌*◌, ◌^◌, ◌<◌, ◌≤◌, List, [], ◌∷◌, length, get_or, drop, None, arith}
 use Rattle.std.specs.Option.{option_and_then}
 use Rattle.std.proofs.lemmas.List.{drop_more}
-use Rattle.rehearsal.specs.Numbers.{below, read_on}
+use Rattle.rehearsal.specs.Tokens.{below, read_on}
 
 too_large : (n : ℕ) (bs : List ℕ) → 2 ^ 63 ≤ n → option_and_then below (read_on n bs) ≡ None
 too_large n [] h = grind arith

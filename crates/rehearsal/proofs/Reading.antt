@@ -1,16 +1,14 @@
 -- How the lines of a script are read, one after the other.
-use Rattle.std.proofs.Common.{◌≡◌, ℕ, ◌+◌, ◌<◌, Bool, false, List, [], ◌∷◌, ◌++◌, length, Some, None, Ok, Err, Option, Result, ◌==◌, refl, ap, append_assoc, arith}
+use Rattle.std.proofs.Common.{◌≡◌, ℕ, ◌+◌, ◌<◌, Bool, List, [], ◌∷◌, ◌++◌, length, Some, None, Ok, Err, Option, Result, ◌==◌, refl, ap, append_assoc, arith}
 use Rattle.std.specs.List.{slice_split}
-use Rattle.std.proofs.lemmas.Bool.Decides.{nat_tests}
-use Rattle.std.proofs.lemmas.List.Elements.{All-from_get_or}
-use Rattle.std.proofs.lemmas.List.Splits.{length-slice_split, slice_split_first, slice_split_none}
-use Rattle.std.proofs.lemmas.List.Sums.{fails_before_first}
+use Rattle.std.proofs.lemmas.List.Splits.{length-slice_split}
 use Rattle.rehearsal.specs.declared.line.Line.{Line}
 use Rattle.rehearsal.specs.declared.script.ScriptFault.{ScriptFault}
 use Rattle.rehearsal.specs.declared.script.ScriptFault as ScriptFaults
 use Rattle.rehearsal.specs.Lines.{line_of}
 use Rattle.rehearsal.specs.Parts.{parted}
 use Rattle.rehearsal.specs.Script.{with_line, lines_from}
+use Rattle.rehearsal.proofs.Splits.{split_first, split_none}
 
 -- whether a byte ends a line
 abbrev is_feed : ℕ → Bool
@@ -38,12 +36,9 @@ before_others n text (next ∷ texts) some = refl
 -- a text up to its first line feed is the first line, which says o
 pub first_line : (n : ℕ) (s text behind : List ℕ) (o : Option Line) → Some (text, behind) ≡ parted 10 s → o ≡ line_of (n == 1) text → said n s ≡ with_line n o (said (n + 1) behind)
 first_line n s text behind o e says =
-    let cut : slice_split is_feed s ≡ text ∷ slice_split is_feed behind = grind (arith, nat_tests, slice_split_first is_feed s 0) in
-    rw (cut, says) (before_others n text (slice_split is_feed behind) (omega (arith, length-slice_split is_feed behind)))
+    rw (split_first 10 s text behind e, says) (before_others n text (slice_split is_feed behind) (omega (arith, length-slice_split is_feed behind)))
 
 -- a text without one is faulty, unless it is empty
 pub unended : (n : ℕ) (s : List ℕ) → None ≡ parted 10 s → 0 < length s → said n s ≡ Err (ScriptFaults.TheVariants.Line n)
 unended n [] e some = absurd (omega arith)
-unended n (b ∷ bs) e some =
-    let s = b ∷ bs in
-    ap (lines_from n) (slice_split_none is_feed s (All-from_get_or (λ b. is_feed b ≡ false) s 0 (λ i l. fails_before_first is_feed s i 0 (grind (arith, nat_tests)))))
+unended n (b ∷ bs) e some = ap (lines_from n) (split_none 10 (b ∷ bs) e)

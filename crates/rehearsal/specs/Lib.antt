@@ -1,6 +1,6 @@
 -- The definitions that the contracts cite.
 pub mod Parts
-pub mod Numbers
+pub mod Tokens
 pub mod Lines
 pub mod Script
 pub mod Calls

@@ -1,6 +1,6 @@
 -- What a line of a script says. A tab is the byte 9.
 use Rattle.std.specs.Prelude.{ℕ, ◌-◌, ◌^◌, Bool, if◌then◌else◌, ◌&&◌, List, [], ◌∷◌, Some, None, codes, min, Option, ◌==◌, nat_le}
-use Rattle.std.specs.Option.{option_and_then, option_map}
+use Rattle.std.specs.Option.{option_and_then, option_map, option_zip}
 use Rattle.std.specs.Str.{bytes_eq}
 use Rattle.drive.specs.declared.calls.Call.{Call}
 use Rattle.drive.specs.declared.calls.Call as Calls
@@ -10,8 +10,7 @@ use Rattle.supervisor.specs.declared.answers.StepKind.{StepKind}
 use Rattle.supervisor.specs.declared.answers.StepKind.TheVariants.{Child, Pause, Control}
 use Rattle.rehearsal.specs.declared.line.Line.{Line}
 use Rattle.rehearsal.specs.declared.line.Line as Lines
-use Rattle.rehearsal.specs.Numbers.{number_of, numbers_of}
-use Rattle.rehearsal.specs.Parts.{parted}
+use Rattle.rehearsal.specs.Tokens.{TokenView, word, number, tokens_of, value_of, number_of, numbers_of}
 
 -- the letter of a call
 abbrev pub call_letter : Call → ℕ
@@ -56,19 +55,16 @@ with_grace name signal grace =
     else if bytes_eq name (codes "try_restart_with_signal") then Some (Sends.TheVariants.TryRestartWithSignal signal grace)
     else None
 
--- the send that a name and its arguments say: a signal, or a signal and a grace
-abbrev pub send_with : List ℕ → List ℕ → Option Send
-send_with name arguments =
-    if bytes_eq name (codes "signal") then option_map (λ n. Sends.TheVariants.Signal (signal_of n)) (number_of arguments)
-    else option_and_then (λ p. with_grace name (signal_of p.0) (grace_of p.1)) (numbers_of arguments)
+-- the send that a name with a signal says
+abbrev pub with_signal : List ℕ → ℕ → Option Send
+with_signal name signal = if bytes_eq name (codes "signal") then Some (Sends.TheVariants.Signal signal) else None
 
--- c: the name of a send, and behind a tab its arguments, if there are any
-abbrev pub send_said : List ℕ → Option (List ℕ × List ℕ) → Option Send
-send_said fields None = send_named fields
-send_said fields (Some p) = send_with p.0 p.1
-
-abbrev pub send_of : List ℕ → Option Send
-send_of fields = send_said fields (parted 9 fields)
+-- c: a word, the name of a send, and behind it as many numbers as the send takes
+abbrev pub send_of : List TokenView → Option Send
+send_of (word name ∷ []) = send_named name
+send_of (word name ∷ number signal ∷ []) = option_and_then (λ s. with_signal name (signal_of s)) (value_of signal)
+send_of (word name ∷ number signal ∷ number grace ∷ []) = option_and_then (λ p. with_grace name (signal_of p.0) (grace_of p.1)) (option_zip (value_of signal) (value_of grace))
+send_of tokens = None
 
 -- a letter and what stands behind its tab
 abbrev pub lettered : List ℕ → Option (ℕ × List ℕ)
@@ -107,22 +103,17 @@ event_line p =
     else (if p.0 == 122 then option_and_then stop_line (numbers_of p.1)
     else None)
 
--- the call that a letter and its fields say
-abbrev pub call_by : ℕ → List ℕ → Option Call
-call_by letter fields =
-    if letter == 99 then option_map Calls.TheVariants.Send (send_of fields)
-    else if letter == 115 then option_and_then step_call (lettered fields)
-    else if letter == 112 then option_map (λ n. Calls.TheVariants.Pause (signal_of n)) (number_of fields)
-    else if letter == 108 then option_map Calls.TheVariants.Look (number_of fields)
-    else if letter == 103 then option_map Calls.TheVariants.Collect (number_of fields)
-    else None
-
--- what a letter and its fields say; m only where the line is the first
+-- what a letter and its fields say: m, where the line is the first, w, or one of the calls c, s, p, l and g
 abbrev pub line_by : Bool → ℕ → List ℕ → Option Line
 line_by first letter fields =
-    if letter == 109 then (if first then option_map make_line (numbers_of fields) else None)
-    else (if letter == 119 then option_and_then event_line (lettered fields)
-    else option_map Lines.TheVariants.Call (call_by letter fields))
+    if letter == 109 && first then option_map make_line (numbers_of fields)
+    else if letter == 99 then option_map (λ send. Lines.TheVariants.Call (Calls.TheVariants.Send send)) (send_of (tokens_of fields))
+    else if letter == 115 then option_map Lines.TheVariants.Call (option_and_then step_call (lettered fields))
+    else if letter == 112 then option_map (λ n. Lines.TheVariants.Call (Calls.TheVariants.Pause (signal_of n))) (number_of fields)
+    else if letter == 108 then option_map (λ n. Lines.TheVariants.Call (Calls.TheVariants.Look n)) (number_of fields)
+    else if letter == 103 then option_map (λ n. Lines.TheVariants.Call (Calls.TheVariants.Collect n)) (number_of fields)
+    else if letter == 119 then option_and_then event_line (lettered fields)
+    else None
 
 -- what a line says; none for a faulty one
 abbrev pub line_of : Bool → List ℕ → Option Line

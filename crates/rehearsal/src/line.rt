@@ -1,11 +1,10 @@
 // What a line of a script says.
 ghost use Rattle.std.specs.Prelude.{◌≡◌};
 ghost use Rattle.std.specs.Option.{option_and_then, option_map};
-ghost use Rattle.rehearsal.specs.Lines.{call_by, call_letter, event_line, exit_line, grace_of, letter_of, lettered, line_by, line_of, send_named, send_of, send_with, signal_of, step_call, step_kind, stop_line, with_grace};
-ghost use Rattle.rehearsal.specs.Numbers.{number_of, numbers_of};
+ghost use Rattle.rehearsal.specs.Lines.{call_letter, event_line, exit_line, grace_of, letter_of, lettered, line_by, line_of, send_named, send_of, signal_of, step_call, step_kind, stop_line, with_grace, with_signal};
+ghost use Rattle.rehearsal.specs.Tokens.{numbers_of, tokens_of};
 
-use crate::parts::cut;
-use crate::token::{number, two_numbers};
+use crate::token::{Token, Tokens, number, two_numbers, value};
 use drive::calls::Call;
 use supervisor::answers::StepKind;
 use supervisor::sends::Send;
@@ -90,16 +89,13 @@ fn with_grace(name: &[u8], signal: u8, grace: u32) -> Option<Send>
     }
 }
 
-// The sends with arguments, which stand behind the name's tab.
-fn send_with(name: &[u8], arguments: &[u8]) -> Option<Send>
-    ensures { result ≡ send_with name.now arguments.now }
+// The send with a signal alone.
+fn with_signal(name: &[u8], signal: u8) -> Option<Send>
+    ensures { result ≡ with_signal name.now signal }
 {
     match name {
-        b"signal" => number(arguments).map(|signal| Send::Signal(signal_of(signal))),
-        _ => {
-            let (signal, grace) = two_numbers(arguments)?;
-            with_grace(name, signal_of(signal), grace_of(grace))
-        }
+        b"signal" => Some(Send::Signal(signal)),
+        _ => None,
     }
 }
 
@@ -113,12 +109,21 @@ fn lettered(bytes: &[u8]) -> Option<(u8, &[u8])>
     }
 }
 
+// The name of a send is a word, and as many numbers follow as the send takes.
 fn read_send(fields: &[u8]) -> Option<Send>
-    ensures { result ≡ send_of fields.now }
+    ensures { result ≡ send_of (tokens_of fields.now) }
 {
-    match cut(fields, b'\t') {
-        Some((name, arguments)) => send_with(name, arguments),
-        None => send_named(fields),
+    let mut tokens = Tokens::of(fields);
+    let Some(Token::Word(name)) = tokens.take() else {
+        return None;
+    };
+    match (tokens.take(), tokens.take(), tokens.take()) {
+        (None, ..) => send_named(name),
+        (Some(Token::Number(signal)), None, _) => with_signal(name, signal_of(value(signal)?)),
+        (Some(Token::Number(signal)), Some(Token::Number(grace)), None) => {
+            with_grace(name, signal_of(value(signal)?), grace_of(value(grace)?))
+        }
+        _ => None,
     }
 }
 
@@ -172,31 +177,23 @@ fn read_event(fields: &[u8]) -> Option<Line>
     }
 }
 
-fn read_call(letter: u8, fields: &[u8]) -> Option<Call>
-    ensures { result ≡ call_by letter fields.now }
-{
-    match letter {
-        b'c' => read_send(fields).map(Call::Send),
-        b's' => read_step(fields),
-        b'p' => number(fields).map(|signal| {
-            Call::Pause {
-                signal: signal_of(signal),
-            }
-        }),
-        b'l' => number(fields).map(|ticket| Call::Look { ticket }),
-        b'g' => number(fields).map(|ticket| Call::Collect { ticket }),
-        _ => None,
-    }
-}
-
-// Only the first line of a script makes the job.
-fn read_fields(letter: u8, fields: &[u8], first: bool) -> Option<Line>
+// What the letter of a line and its fields say. Only the first line of a script makes the job.
+fn read_fields(letter: char, fields: &[u8], first: bool) -> Option<Line>
     ensures { result ≡ line_by first letter fields.now }
 {
     match letter {
-        b'm' if first => two_numbers(fields).map(|(options, mask)| Line::Make { options, mask }),
-        b'w' => read_event(fields),
-        _ => read_call(letter, fields).map(Line::Call),
+        'm' if first => two_numbers(fields).map(|(options, mask)| Line::Make { options, mask }),
+        'c' => read_send(fields).map(|send| Line::Call(Call::Send(send))),
+        's' => read_step(fields).map(Line::Call),
+        'p' => number(fields).map(|signal| {
+            Line::Call(Call::Pause {
+                signal: signal_of(signal),
+            })
+        }),
+        'l' => number(fields).map(|ticket| Line::Call(Call::Look { ticket })),
+        'g' => number(fields).map(|ticket| Line::Call(Call::Collect { ticket })),
+        'w' => read_event(fields),
+        _ => None,
     }
 }
 
@@ -205,5 +202,5 @@ pub(crate) fn parse(line: &[u8], first: bool) -> Option<Line>
     ensures { result ≡ line_of first line.now }
 {
     let (letter, fields) = lettered(line)?;
-    read_fields(letter, fields, first)
+    read_fields(char::from(letter), fields, first)
 }
