@@ -3,3 +3,4 @@ pub mod Digits
 pub mod Splits
 pub mod Fields
 pub mod Reading
+pub mod Runs

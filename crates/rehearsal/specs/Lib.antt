@@ -3,5 +3,7 @@ pub mod Parts
 pub mod Tokens
 pub mod Lines
 pub mod Script
-pub mod Calls
+pub mod Trees
+pub mod Plays
 pub mod Printed
+pub mod View

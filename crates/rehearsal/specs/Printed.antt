@@ -1,17 +1,16 @@
 -- The text that is printed: lines of fields with tabs (byte 9) between them, ended by line feeds (byte 10).
-use Rattle.std.specs.Prelude.{◌≡◌, ℕ, ◌+◌, List, [], ◌∷◌, ◌++◌, take, Ok, Err, decimal, encode_utf8, Result}
+use Rattle.std.specs.Prelude.{ℕ, ◌+◌, List, [], ◌∷◌, ◌++◌, Ok, Err, decimal, encode_utf8, Result}
 use Rattle.std.specs.Fmt.{signed_decimal}
 use Rattle.std.specs.List.{flat_map}
 use Rattle.host.specs.declared.journal.Record.{Record}
 use Rattle.host.specs.Journal.{call_number, answer_number}
 use Rattle.supervisor.specs.declared.errors.Refusal.{Refusal}
 use Rattle.supervisor.specs.Errors.{refusal_number}
-use Rattle.drive.specs.declared.calls.Done.{Done}
 use Rattle.rehearsal.specs.declared.line.Line.{Line}
-use Rattle.rehearsal.specs.declared.run.Rehearsal.{Rehearsal}
 use Rattle.rehearsal.specs.declared.script.ScriptFault.{ScriptFault}
 use Rattle.rehearsal.specs.declared.script.ScriptFault as ScriptFaults
-use Rattle.rehearsal.specs.Calls.{IsFresh, Plays}
+use Rattle.rehearsal.specs.Plays.{State, beginning, play}
+use Rattle.rehearsal.specs.Script.{script_of}
 use Rattle.rehearsal.specs.Lines.{letter_of}
 
 -- the number of a faulty line; 0 for a script that is too long
@@ -39,15 +38,19 @@ answered_text number letter (Ok value) = answer_text number letter 0 value
 answered_text number letter (Err refusal) = answer_text number letter (refusal_number refusal) 0
 
 -- what a line prints: its answer, and the records that it wrote
-abbrev pub line_text : ℕ → ℕ → Done → List Record → List ℕ
-line_text number letter done sheet = answered_text number letter done.answer ++ flat_map record_text (take done.records sheet)
+abbrev pub line_text : ℕ → ℕ → Result ℕ Refusal → List Record → List ℕ
+line_text number letter answer records = answered_text number letter answer ++ flat_map record_text records
 
--- what the lines from number n on print, whose calls are made from r on: each its answer, and then the lines behind it
-abbrev pub Prints : ℕ → List Line → Rehearsal → List ℕ → Type 0
-Prints n [] r text = text ≡ []
-Prints n (line ∷ lines) r text = (done : Done) × (next : Rehearsal) × (more : List ℕ) × Plays line r done next × (text ≡ line_text n (letter_of line) done next.sheet ++ more) × Prints (n + 1) lines next more
+-- what lines print that are played one after the other from the state s on, the first of which is line n
+abbrev pub text_from : ℕ → List Line → State → List ℕ
+text_from n [] s = []
+text_from n (line ∷ lines) s = let p = play s line in line_text n (letter_of line) p.answer p.records ++ text_from (n + 1) lines p.state
 
--- a script with a fault prints it; the others are performed from a fresh job on, with options and mask 0
-abbrev pub Printed : Result (List Line) ScriptFault → List ℕ → Type 0
-Printed (Err fault) text = text ≡ fault_text fault
-Printed (Ok lines) text = (r : Rehearsal) × IsFresh 0 0 r × Prints 1 lines r text
+-- a script with a fault prints it; the lines of another are played
+abbrev pub text_of : Result (List Line) ScriptFault → List ℕ
+text_of (Err fault) = fault_text fault
+text_of (Ok lines) = text_from 1 lines beginning
+
+-- THE REHEARSAL. What the bytes of a script print.
+abbrev pub rehearsed : List ℕ → List ℕ
+rehearsed script = text_of (script_of script)

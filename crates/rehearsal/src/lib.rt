@@ -8,9 +8,8 @@ mod run;
 mod script;
 mod token;
 
-ghost use Rattle.std.specs.Prelude.{IfOk, string_bytes};
-ghost use Rattle.rehearsal.specs.Printed.{Printed};
-ghost use Rattle.rehearsal.specs.Script.{script_of};
+ghost use Rattle.std.specs.Prelude.{◌≡◌, IfOk, string_bytes};
+ghost use Rattle.rehearsal.specs.Printed.{rehearsed};
 
 use crate::run::Rehearsal;
 use crate::script::ReadError;
@@ -21,7 +20,7 @@ pub const MOST_BYTES: usize = 32768;
 
 // The text that a script prints: what each of its lines answers with the records of its calls, or the number of a faulty line.
 pub fn rehearse(heap: Global, script: &[u8]) -> Result<String, AllocError>
-    ensures { IfOk result (λ text. Printed (script_of script.now) (string_bytes text)) }
+    ensures { IfOk result (λ text. string_bytes text ≡ rehearsed script.now) }
 {
     match script::read(heap, script) {
         Ok(lines) => Rehearsal::new().perform(heap, &lines),

@@ -1,5 +1,5 @@
 // The text that is printed.
-ghost use Rattle.std.specs.Prelude.{◌≡◌, ◌++◌, OnOk, Some, string_bytes};
+ghost use Rattle.std.specs.Prelude.{◌≡◌, ◌++◌, take, OnOk, Some, string_bytes};
 ghost use Rattle.std.specs.List.{flat_map};
 ghost use Rattle.rehearsal.specs.Printed.{answer_text, fault_text, line_text, record_text};
 
@@ -62,7 +62,7 @@ pub(crate) fn write_line(
     done: Done,
     sheet: &[Record],
 ) -> Result<(), AllocError>
-    ensures { OnOk result (string_bytes text.new ≡ string_bytes text.old ++ line_text number letter done sheet.now) }
+    ensures { OnOk result (string_bytes text.new ≡ string_bytes text.old ++ line_text number letter done.answer (take done.records sheet.now)) }
 {
     let (refusal, value) = match done.answer {
         Ok(value) => (0, value),

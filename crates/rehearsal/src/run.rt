@@ -1,11 +1,13 @@
 // A script's calls, made on one job.
-ghost use Rattle.std.specs.Prelude.{◌≡◌, ◌^◌, is_ok, IfOk, if◌then◌else◌, Ok, Err, string_bytes, nat_le, nat_lt, MatchResult};
+ghost use Rattle.std.specs.Prelude.{◌≡◌, if◌then◌else◌, Ok, Err, IfOk, string_bytes};
+ghost use Rattle.std.specs.Result.{result_map_both};
 ghost use Rattle.hosts.specs.declared.children.End.TheVariants.{Exited};
 ghost use Rattle.hosts.specs.declared.children.Life.TheVariants as Life;
 ghost use Rattle.supervisor.specs.declared.errors.Refusal.TheVariants.{Unknown};
 ghost use Rattle.supervisor.specs.Job as Spec;
-ghost use Rattle.rehearsal.specs.Calls.{IsFresh, MakesJob, Plays, TellsChild};
-ghost use Rattle.rehearsal.specs.Printed.{Prints};
+ghost use Rattle.rehearsal.specs.Plays.{beginning, made, opened, play, told};
+ghost use Rattle.rehearsal.specs.View.{answered, played, state_of};
+ghost use Rattle.rehearsal.specs.Printed.{text_from};
 
 use crate::line::Line;
 use crate::print::write_line;
@@ -39,7 +41,7 @@ fn if_living(living: bool) -> Result<u32, Refusal>
 impl Rehearsal {
     // With options and mask 0.
     pub(crate) fn new() -> Rehearsal
-        ensures { IsFresh 0 0 result }
+        ensures { state_of result ≡ beginning }
     {
         let Ok(made) = Rehearsal::with(0, 0) else {
             unreachable!()
@@ -49,8 +51,7 @@ impl Rehearsal {
 
     // Bits of the mask above 31 name no signal.
     fn with(options: u8, mask: u64) -> Result<Rehearsal, Refusal>
-        ensures granted { is_ok result ≡ nat_le options 15 }
-        ensures made { MatchResult result (IsFresh options mask) (λ refusal. Spec.make 1 options ≡ Err refusal) }
+        ensures { result_map_both state_of (λ refusal. refusal) result ≡ result_map_both (opened mask) (λ refusal. refusal) (Spec.make 1 options) }
     {
         let job = Job::new(PROGRAM, options)?;
         let host = SimulatedHost::new((mask & 0xffff_ffff) as u32, job.command().options);
@@ -63,7 +64,7 @@ impl Rehearsal {
     }
 
     fn make(&mut self, options: u64, mask: u64) -> Result<u32, Refusal>
-        ensures { MakesJob options mask self.old result self.new }
+        ensures { answered result self.new ≡ made (state_of self.old) mask (Spec.make 1 options) }
     {
         let options = u8::try_from(options).map_err(|_| Refusal::Number)?;
         *self = Rehearsal::with(options, mask)?;
@@ -71,20 +72,20 @@ impl Rehearsal {
     }
 
     fn exit(&mut self, child: u64, code: u8) -> Result<u32, Refusal>
-        ensures { TellsChild child (Life.Ended (Exited code)) self.old result self.new }
+        ensures { answered result self.new ≡ told (state_of self.old) child (Life.Ended (Exited code)) }
     {
         if_living(self.host.exit(known(child)?, code))
     }
 
     fn stop(&mut self, child: u64) -> Result<u32, Refusal>
-        ensures { TellsChild child Life.Stopped self.old result self.new }
+        ensures { answered result self.new ≡ told (state_of self.old) child Life.Stopped }
     {
         if_living(self.host.stop(known(child)?))
     }
 
     // Does what one line says, which was read from a text, and so is no closure.
     fn play(&mut self, line: Line) -> Done
-        ensures { Plays line self.old result self.new }
+        ensures { played result self.new ≡ play (state_of self.old) line }
     {
         match line {
             Line::Make { options, mask } => self.make(options, mask).into(),
@@ -102,7 +103,7 @@ impl Rehearsal {
 
     // Makes the calls of the lines, in order, and gives the text of their answers.
     pub(crate) fn perform(&mut self, heap: Global, lines: &[Line]) -> Result<String, AllocError>
-        ensures { IfOk result (λ text. Prints 1 lines.now self.old (string_bytes text)) }
+        ensures { IfOk result (λ text. string_bytes text ≡ text_from 1 lines.now (state_of self.old)) }
     {
         let mut text = String::new(heap);
         for (i, line) in lines.iter().enumerate() {

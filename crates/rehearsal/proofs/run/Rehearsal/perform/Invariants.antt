@@ -1,7 +1,8 @@
--- What is to come, from what was performed so far, as one text.
-use Rattle.std.proofs.Common.{ℕ, ◌+◌, ◌++◌, List, drop, string_bytes}
-use Rattle.rehearsal.specs.Printed.{Prints}
+-- What all lines print is what was printed so far, and what those that are left print.
+use Rattle.std.proofs.Common.{◌≡◌, ◌+◌, ◌++◌, drop, string_bytes}
+use Rattle.rehearsal.specs.View.{state_of}
+use Rattle.rehearsal.specs.Printed.{text_from}
 use Rattle.rehearsal.proofs.run.Rehearsal.perform.Given as goal
 
 abbrev pub invariant-loop-i : goal.invariant-loop-i
-invariant-loop-i l = (more : List ℕ) → Prints (l.i + 1) (drop l.i l.lines) l.self more → Prints 1 l.lines l.initial.self (string_bytes l.text ++ more)
+invariant-loop-i l = text_from 1 l.lines (state_of l.initial.self) ≡ string_bytes l.text ++ text_from (l.i + 1) (drop l.i l.lines) (state_of l.self)
