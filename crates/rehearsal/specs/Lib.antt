@@ -7,3 +7,4 @@ pub mod Trees
 pub mod Plays
 pub mod Printed
 pub mod View
+pub mod Buffer

@@ -1,6 +1,7 @@
 // The rehearsal: a script of calls on one job is checked, run on the simulated host and the absent terminal, and printed.
 #![tactic(auto)]
 
+mod buffer;
 mod line;
 mod parts;
 mod print;
@@ -11,6 +12,7 @@ mod token;
 ghost use Rattle.std.specs.Prelude.{◌≡◌, IfOk, string_bytes};
 ghost use Rattle.rehearsal.specs.Printed.{rehearsed};
 
+use crate::print::fault_line;
 use crate::run::Rehearsal;
 use crate::script::ReadError;
 use std::alloc::{AllocError, Global};
@@ -24,7 +26,7 @@ pub fn rehearse(heap: Global, script: &[u8]) -> Result<String, AllocError>
 {
     match script::read(heap, script) {
         Ok(lines) => Rehearsal::new().perform(heap, &lines),
-        Err(ReadError::Faulty(fault)) => format!(in heap; "{fault}"),
+        Err(ReadError::Faulty(fault)) => String::from_str(heap, fault_line(fault).as_str()),
         Err(ReadError::Memory) => Err(AllocError),
     }
 }
