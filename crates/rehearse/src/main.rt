@@ -1,15 +1,67 @@
-// Reads a rehearsal script from standard input, runs it, and prints what it answers.
+// Reads a rehearsal script from standard input or from a file, runs it, and prints what it answers.
 #![tactic(auto)]
 
+ghost use Rattle.std.specs.Prelude.{◌≡◌, IfOk, IfSome, string_bytes};
+ghost use Rattle.rehearsal.specs.Printed.{rehearsed};
+
+use std::alloc::Global;
 use std::io::Read;
+use std::process::ExitCode;
+use std::{env, fs, io};
 
 // One byte more than a script may have: enough to know that it is too long.
 const ENOUGH: u64 = rehearsal::MOST_BYTES as u64 + 1;
 
-fn main(rt: HostRuntime) -> anyhow::Result<()> {
-    let mut script = Vec::new(rt.alloc());
-    rt.stdin().take(ENOUGH).read_to_end(&mut script)?;
-    let text = rehearsal::rehearse(rt.alloc(), &script)?;
+// The status where there are too many arguments.
+const MISUSED: u8 = 2;
+
+// What a script prints.
+fn text_of<R: Read + Drop>(heap: Global, script: R) -> io::Result<String>
+    ensures { IfOk result (λ text. IfSome (R.remaining script) (λ bytes. string_bytes text ≡ rehearsed bytes)) }
+{
+    let mut bytes = Vec::new(heap);
+    script.take(ENOUGH).read_to_end(&mut bytes)?;
+    Ok(rehearsal::rehearse(heap, &bytes)?)
+}
+
+fn main(rt: HostRuntime) -> anyhow::Result<ExitCode> {
+    let mut arguments = env::args(&rt)?.skip(1);
+    let text = match (arguments.next(), arguments.next()) {
+        (None, _) => text_of(rt.alloc(), rt.stdin())?,
+        (Some(path), None) => {
+            match fs::open(&rt, path.as_str()).and_then(|file| text_of(rt.alloc(), file)) {
+                Ok(text) => text,
+                Err(error) => {
+                    eprintln!(rt; "rehearse: {path}: {error}")?;
+                    return Ok(ExitCode::FAILURE);
+                }
+            }
+        }
+        (Some(_), Some(_)) => {
+            eprintln!(rt; "usage: rehearse [SCRIPT]\nWithout SCRIPT, standard input is read.")?;
+            return Ok(ExitCode::from(MISUSED));
+        }
+    };
     print!(rt; "{text}")?;
-    Ok(())
+    Ok(ExitCode::SUCCESS)
+}
+
+#[cfg(test)]
+mod tests {
+    use super::*;
+    use std::test::Fail;
+
+    #[test]
+    fn a_reader_gives_the_script(rt: HostRuntime) -> Result<(), Fail> {
+        let text = text_of(rt.alloc(), b"c\tstart\nl\t0\n".as_slice())?;
+        assert_eq!(rt; text.as_str(), "1\tc\t0\t1\n2\tl\t0\t1\n");
+        Ok(())
+    }
+
+    #[test]
+    fn a_script_that_is_far_too_long_is_not_read_to_its_end(rt: HostRuntime) -> Result<(), Fail> {
+        let text = text_of(rt.alloc(), io::repeat(b'l'))?;
+        assert_eq!(rt; text.as_str(), "13\t0\n");
+        Ok(())
+    }
 }
