@@ -103,7 +103,8 @@ event_line p =
     else (if p.0 == 122 then option_and_then stop_line (numbers_of p.1)
     else None)
 
--- what a letter and its fields say: m, where the line is the first, w, or one of the calls c, s, p, l and g
+-- what a letter and its fields say: m (109), if the line is the first; c (99), s (115), p (112), l (108) or g (103), which are calls;
+-- or w (119)
 abbrev pub line_by : Bool → ℕ → List ℕ → Option Line
 line_by first letter fields =
     if letter == 109 && first then option_map make_line (numbers_of fields)
