@@ -1,0 +1,15 @@
+// Scripts that were run on the Rust are run on the job, and what the two answer is compared.
+#![tactic(auto)]
+
+mod answers;
+mod controls;
+mod line;
+mod numbers;
+mod recorded;
+mod report;
+mod run;
+mod sends;
+mod session;
+mod setting;
+
+pub use crate::report::{Report, replay};

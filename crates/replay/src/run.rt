@@ -1,0 +1,89 @@
+// A script's lines, made on one job.
+use crate::answers::write_answer;
+use crate::line::{Line, read_answers, read_job, read_line};
+use crate::session::Session;
+use drive::calls::Done;
+use drive::runs;
+use host::journal::Record;
+use hosts::prepared::PreparedHost;
+use std::alloc::{AllocError, Global};
+use supervisor::job::{Job, LEAST_PLACES};
+
+// Why a script gives no answers: the line of this number is faulty, or memory is wanting.
+#[derive(Clone, Copy, Debug, PartialEq, Eq)]
+pub(crate) enum ScriptError {
+    Line(usize),
+    Memory,
+}
+
+impl From<AllocError> for ScriptError {
+    fn from(_error: AllocError) -> ScriptError {
+        ScriptError::Memory
+    }
+}
+
+#[derive(Drop)]
+struct Run {
+    job: Job,
+    host: PreparedHost<Vec<i64>>,
+    session: Session,
+    sheet: [Record; LEAST_PLACES],
+}
+
+impl Run {
+    fn new(job: Job, answers: Vec<i64>) -> Run {
+        Run {
+            job,
+            host: PreparedHost::new(answers),
+            session: Session::absent(),
+            sheet: [Record::BLANK; LEAST_PLACES],
+        }
+    }
+
+    fn call(&mut self, call: drive::calls::Call) -> Done {
+        runs::make(
+            &mut self.job,
+            &mut self.host,
+            &mut self.session.terminal,
+            &mut self.sheet,
+            call,
+        )
+    }
+
+    // Does what a line says; none if there is no place for a group.
+    fn play(&mut self, line: Line) -> Option<Done> {
+        match line {
+            Line::Call(call) => {
+                let done = self.call(call);
+                let records = done.records.min(LEAST_PLACES);
+                self.session.admit(&self.sheet[..records]);
+                Some(done)
+            }
+            Line::Terminal(setting) => self.session.set(setting).then_some(Ok(0).into()),
+        }
+    }
+
+    // Adds what the line of this number answers.
+    fn add(&mut self, text: &mut String, number: usize, read: &str) -> Result<(), ScriptError> {
+        let said = read_line(read).ok_or(ScriptError::Line(number))?;
+        let done = self.play(said).ok_or(ScriptError::Line(number))?;
+        let letter = read.split_once('\t').map_or("", |fields| fields.0);
+        let records = done.records.min(LEAST_PLACES);
+        write_answer(text, number, letter, done, &self.sheet[..records])?;
+        Ok(())
+    }
+}
+
+// What the lines of a script answer.
+pub(crate) fn answered(heap: Global, script: &str) -> Result<String, ScriptError> {
+    let (first, rest) = script.split_once('\n').ok_or(ScriptError::Line(1))?;
+    let (second, rest) = rest.split_once('\n').ok_or(ScriptError::Line(2))?;
+    let job = read_job(first).ok_or(ScriptError::Line(1))?;
+    let answers = read_answers(heap, second)?.ok_or(ScriptError::Line(2))?;
+    let mut run = Run::new(job, answers);
+    let mut text = String::from_str(heap, "1\tM\t0\t0\n2\ta\t0\t0\n")?;
+    for (i, read) in rest.lines().enumerate() {
+        run.add(&mut text, i + 3, read)?;
+    }
+    Ok(text)
+}
