@@ -11,5 +11,7 @@ mod run;
 mod sends;
 mod session;
 mod setting;
+mod verdict;
 
 pub use crate::report::{Report, replay};
+pub use crate::verdict::Tally;

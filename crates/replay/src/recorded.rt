@@ -2,7 +2,7 @@
 
 // What the Rust answered, and what the copy with a correction did where that is another thing.
 #[derive(Clone, Copy)]
-pub(crate) enum Record<'a> {
+pub(crate) enum Expected<'a> {
     None,
     Rust(&'a str),
     Corrected {
@@ -16,22 +16,22 @@ pub(crate) enum Record<'a> {
 pub(crate) struct Recorded<'a> {
     pub(crate) name: &'a str,
     pub(crate) script: &'a str,
-    pub(crate) record: Record<'a>,
+    pub(crate) expected: Expected<'a>,
 }
 
-fn answers_of(text: &str) -> Record<'_> {
+fn answers_of(text: &str) -> Expected<'_> {
     let Some((rust, rest)) = text.split_once("%= corrected ") else {
-        return Record::Rust(text);
+        return Expected::Rust(text);
     };
     match rest.split_once('\n') {
         Some((correction, corrected)) => {
-            Record::Corrected {
+            Expected::Corrected {
                 rust,
                 correction,
                 corrected,
             }
         }
-        None => Record::Rust(text),
+        None => Expected::Rust(text),
     }
 }
 
@@ -43,14 +43,14 @@ pub(crate) fn part(text: &str) -> Recorded<'_> {
             Recorded {
                 name,
                 script,
-                record: answers_of(answers),
+                expected: answers_of(answers),
             }
         }
         None => {
             Recorded {
                 name,
                 script: body,
-                record: Record::None,
+                expected: Expected::None,
             }
         }
     }

@@ -1,16 +1,17 @@
 // What is said of a sample: where the job answers as was recorded and where it doesn't.
-use crate::recorded::{Record, Recorded, part};
+ghost use Rattle.std.specs.Prelude.{◌≡◌, OnOk};
+ghost use Rattle.replay.specs.Verdict.{counted, found};
+
+use crate::recorded::{Expected, Recorded, part};
 use crate::run::{ScriptError, answered};
+use crate::verdict::{Tally, Verdict, compare};
 use std::alloc::{AllocError, Global};
 
-// The text, and how many scripts there were, how many have the Rust's answers, how many have a correction's, and how many have
-// neither.
+// The text, and what its scripts were found to be.
 #[derive(Drop)]
 pub struct Report {
     pub text: String,
-    pub same: u64,
-    pub corrected: u64,
-    pub differing: u64,
+    pub tally: Tally,
 }
 
 // Adds the lines in which two texts differ, from the first such line on.
@@ -29,41 +30,57 @@ fn write_difference(text: &mut String, theirs: &str, ours: &str) -> Result<(), A
     Ok(())
 }
 
-impl Report {
-    fn differs(&mut self, name: &str, theirs: &str, ours: &str) -> Result<(), AllocError> {
-        self.differing = self.differing.saturating_add(1);
-        writeln!(self.text, "%% {name} differs")?;
-        write_difference(&mut self.text, theirs, ours)
-    }
-
-    // A correction bears: the Rust's answers are other ones, which are shown.
-    fn corrects(&mut self, name: &str, correction: &str, rust: &str, ours: &str) -> Result<(), AllocError> {
-        self.corrected = self.corrected.saturating_add(1);
-        writeln!(self.text, "%% {name} corrected {correction}")?;
-        write_difference(&mut self.text, rust, ours)
-    }
-
-    fn compare(&mut self, script: Recorded<'_>, ours: &str) -> Result<(), AllocError> {
-        let name = script.name;
-        match script.record {
-            Record::None => write!(self.text, "%% {name}\n{ours}"),
-            Record::Rust(rust) if rust == ours => {
-                self.same = self.same.saturating_add(1);
-                Ok(())
-            }
-            Record::Rust(rust) => self.differs(name, rust, ours),
-            Record::Corrected { rust, correction, corrected } if corrected == ours && rust != ours => {
-                self.corrects(name, correction, rust, ours)
-            }
-            Record::Corrected { corrected, .. } => self.differs(name, corrected, ours),
+// Adds what is found of a script: its answers where none were recorded, and else where they are other ones.
+fn write_found(
+    text: &mut String,
+    script: Recorded<'_>,
+    ours: &str,
+    verdict: Verdict,
+) -> Result<(), AllocError> {
+    let name = script.name;
+    match (script.expected, verdict) {
+        (Expected::None, _) => write!(text, "%% {name}\n{ours}"),
+        (_, Verdict::Same) => Ok(()),
+        (
+            Expected::Corrected {
+                rust,
+                correction,
+                ..
+            },
+            Verdict::Corrected,
+        ) => {
+            writeln!(text, "%% {name} corrected {correction}")?;
+            write_difference(text, rust, ours)
+        }
+        (
+            Expected::Rust(recorded)
+            | Expected::Corrected {
+                corrected: recorded,
+                ..
+            },
+            _,
+        ) => {
+            writeln!(text, "%% {name} differs")?;
+            write_difference(text, recorded, ours)
         }
     }
+}
 
+impl Report {
+    fn tell(&mut self, script: Recorded<'_>, ours: &str) -> Result<(), AllocError>
+        ensures { OnOk result (self.new.tally ≡ counted (found script.entry.expected ours.now) self.old.tally) }
+    {
+        let verdict = compare(script.expected, ours);
+        self.tally.count(verdict);
+        write_found(&mut self.text, script, ours, verdict)
+    }
+
+    // A script that is faulty differs.
     fn add(&mut self, heap: Global, script: Recorded<'_>) -> Result<(), AllocError> {
         match answered(heap, script.script) {
-            Ok(ours) => self.compare(script, ours.as_str()),
+            Ok(ours) => self.tell(script, ours.as_str()),
             Err(ScriptError::Line(number)) => {
-                self.differing = self.differing.saturating_add(1);
+                self.tally.count(Verdict::Different);
                 writeln!(self.text, "%% {} faulty {number}", script.name)
             }
             Err(ScriptError::Memory) => Err(AllocError),
@@ -75,9 +92,7 @@ impl Report {
 pub fn replay(heap: Global, sample: &str) -> Result<Report, AllocError> {
     let mut report = Report {
         text: String::new(heap),
-        same: 0,
-        corrected: 0,
-        differing: 0,
+        tally: Tally::default(),
     };
     for text in sample.split("%% ").skip(1) {
         report.add(heap, part(text))?;

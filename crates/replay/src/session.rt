@@ -36,7 +36,13 @@ impl Session {
             groups,
             places: [None; PLACES],
         };
-        session.put(OWN, Member { group: own, empty: false });
+        session.put(
+            OWN,
+            Member {
+                group: own,
+                empty: false,
+            },
+        );
         session.terminal.set_foreground(foreground);
         session
     }
@@ -70,7 +76,13 @@ impl Session {
         }
     }
 
-    fn simulate(&mut self, own: Group, foreground: Option<Group>, settings: u32, handling: Handling) {
+    fn simulate(
+        &mut self,
+        own: Group,
+        foreground: Option<Group>,
+        settings: u32,
+        handling: Handling,
+    ) {
         *self = Session::with(own, Groups::Listed, foreground);
         self.terminal.set_settings(settings);
         self.terminal.set_handling(handling);
@@ -108,7 +120,13 @@ impl Session {
             if let (CallKind::Spawn, Answer::Child(child)) = (record.call, record.answer)
                 && let Ok(group) = Group::try_from(child)
             {
-                self.put(CHILD, Member { group, empty: false });
+                self.put(
+                    CHILD,
+                    Member {
+                        group,
+                        empty: false,
+                    },
+                );
             }
         }
     }

@@ -7,9 +7,16 @@ fn main(rt: HostRuntime) -> anyhow::Result<()> {
     let sample = io::read_to_string(rt.alloc(), rt.stdin())?;
     let report = replay::replay(rt.alloc(), sample.as_str())?;
     print!(rt; "{}", report.text)?;
-    if report.same > 0 {
-        println!(rt; "{} as the Rust, {} as corrected", report.same, report.corrected)?;
+    if report.tally.same > 0 {
+        println!(rt;
+            "{} as the Rust, {} as corrected",
+            report.tally.same, report.tally.corrected
+        )?;
     }
-    anyhow::ensure!(report.differing == 0, "{} scripts differ", report.differing);
+    anyhow::ensure!(
+        report.tally.differing == 0,
+        "{} scripts differ",
+        report.tally.differing
+    );
     Ok(())
 }

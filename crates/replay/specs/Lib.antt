@@ -1,0 +1,2 @@
+-- The definitions of what is found of recorded scripts.
+pub mod Verdict
