@@ -14,20 +14,33 @@ pub struct Report {
     pub tally: Tally,
 }
 
-// Adds the lines in which two texts differ, from the first such line on.
-fn write_difference(text: &mut String, theirs: &str, ours: &str) -> Result<(), AllocError> {
-    let same = theirs
-        .lines()
-        .zip(ours.lines())
-        .take_while(|(a, b)| a == b)
-        .count();
-    for line in theirs.lines().skip(same) {
-        writeln!(text, "- {line}")?;
-    }
-    for line in ours.lines().skip(same) {
-        writeln!(text, "+ {line}")?;
+// Adds lines with a sign before them, without so many at the head and so many at the end.
+fn write_lines(
+    text: &mut String,
+    sign: char,
+    lines: &str,
+    before: usize,
+    behind: usize,
+) -> Result<(), AllocError> {
+    let count = lines.lines().count();
+    let shown = count.saturating_sub(before).saturating_sub(behind);
+    for line in lines.lines().skip(before).take(shown) {
+        writeln!(text, "{sign} {line}")?;
     }
     Ok(())
+}
+
+// Adds the lines of two texts without those that are the same at their heads and at their ends.
+fn write_difference(text: &mut String, theirs: &str, ours: &str) -> Result<(), AllocError> {
+    let pairs = theirs.lines().zip(ours.lines());
+    let before = pairs.take_while(|(a, b)| a == b).count();
+    let shorter = theirs.lines().count().min(ours.lines().count());
+    let pairs = theirs.lines().rev().zip(ours.lines().rev());
+    let same = pairs.take_while(|(a, b)| a == b).count();
+    // A line of the head is none of the end.
+    let behind = same.min(shorter.saturating_sub(before));
+    write_lines(text, '-', theirs, before, behind)?;
+    write_lines(text, '+', ours, before, behind)
 }
 
 // Adds what is found of a script: its answers where none were recorded, and else where they are other ones.
