@@ -1,2 +1,3 @@
 -- The definitions of what is found of recorded scripts.
+pub mod Calls
 pub mod Verdict

@@ -1,8 +1,10 @@
 // A script's lines, made on one job.
+ghost use Rattle.replay.specs.Calls.{Calls};
+
 use crate::answers::write_answer;
 use crate::line::{Line, read_answers, read_job, read_line};
 use crate::session::Session;
-use drive::calls::Done;
+use drive::calls::{Call, Done};
 use drive::runs;
 use host::journal::Record;
 use hosts::prepared::PreparedHost;
@@ -40,7 +42,9 @@ impl Run {
         }
     }
 
-    fn call(&mut self, call: drive::calls::Call) -> Done {
+    fn call(&mut self, call: Call) -> Done
+        ensures { Calls call self.old result self.new }
+    {
         runs::make(
             &mut self.job,
             &mut self.host,

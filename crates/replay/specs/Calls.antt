@@ -1,0 +1,27 @@
+-- What a call of a script does to the job, its host, its terminal and the sheet.
+use Rattle.std.specs.Prelude.{ℤ, Vec}
+use Rattle.std.specs.declared.alloc.Global.{Global}
+use Rattle.host.specs.declared.process.Host as Host
+use Rattle.host.specs.declared.terminal.Terminal as Terminal
+use Rattle.hosts.specs.declared.prepared.PreparedHost.{PreparedHost}
+use Rattle.hosts.specs.Prepared as Prepared
+use Rattle.foreground.specs.declared.simulated.SimulatedTerminal.{SimulatedTerminal}
+use Rattle.foreground.specs.Simulated as Simulated
+use Rattle.supervisor.specs.Steps.{Moment}
+use Rattle.drive.specs.declared.calls.Call.{Call}
+use Rattle.drive.specs.declared.calls.Done.{Done}
+use Rattle.drive.specs.Calls.{Makes}
+use Rattle.replay.specs.declared.run.Run.{Run}
+
+abbrev pub moment : Run → Moment (PreparedHost (Vec ℤ Global)) SimulatedTerminal
+moment r = record { job = r.job; host = r.host; terminal = r.session.terminal; sheet = r.sheet }
+
+abbrev pub by_prepared : Host.Ghosts (PreparedHost (Vec ℤ Global))
+by_prepared = record { MOST = 1; book = λ h. (Prepared.view (λ v. v.items) h).book; did = Prepared.Did (λ v. v.items) }
+
+abbrev pub by_simulated : Terminal.Ghosts SimulatedTerminal
+by_simulated = record { book = λ t. Simulated.book_of (Simulated.view t); did = Simulated.Did }
+
+-- the call is made as every other one, on the host that answers from the script's sheet and on the script's terminal
+abbrev pub Calls : Call → Run → Done → Run → Type 0
+Calls call old done new = Makes by_prepared by_simulated call (moment old) done (moment new)
