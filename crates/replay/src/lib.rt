@@ -15,3 +15,6 @@ mod verdict;
 
 pub use crate::report::{Report, replay};
 pub use crate::verdict::Tally;
+
+#[cfg(test)]
+mod tests;
