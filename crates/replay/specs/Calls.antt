@@ -1,5 +1,5 @@
 -- What a call of a script does to the job, its host, its terminal and the sheet.
-use Rattle.std.specs.Prelude.{ℤ, Vec}
+use Rattle.std.specs.Prelude.{◌≡◌, ◌⊎◌, ℤ, Vec, Option, Some, None, Ok}
 use Rattle.std.specs.declared.alloc.Global.{Global}
 use Rattle.host.specs.declared.process.Host as Host
 use Rattle.host.specs.declared.terminal.Terminal as Terminal
@@ -10,8 +10,12 @@ use Rattle.foreground.specs.Simulated as Simulated
 use Rattle.supervisor.specs.Steps.{Moment}
 use Rattle.drive.specs.declared.calls.Call.{Call}
 use Rattle.drive.specs.declared.calls.Done.{Done}
+use Rattle.drive.specs.Answers.{only_answered}
 use Rattle.drive.specs.Calls.{Makes}
+use Rattle.replay.specs.declared.line.Line.{Line}
+use Rattle.replay.specs.declared.line.Line as Lines
 use Rattle.replay.specs.declared.run.Run.{Run}
+use Rattle.replay.specs.Terminals.{OnlyGroups}
 
 abbrev pub moment : Run → Moment (PreparedHost (Vec ℤ Global)) SimulatedTerminal
 moment r = record { job = r.job; host = r.host; terminal = r.session.terminal; sheet = r.sheet }
@@ -25,3 +29,9 @@ by_simulated = record { book = λ t. Simulated.book_of (Simulated.view t); did =
 -- the call is made as every other one, on the host that answers from the script's sheet and on the script's terminal
 abbrev pub Calls : Call → Run → Done → Run → Type 0
 Calls call old done new = Makes by_prepared by_simulated call (moment old) done (moment new)
+
+-- A line: behind a call only groups may join the session, and what is set of the terminal leaves the job, its host and the sheet.
+-- Where there is no place for a group, nothing is answered.
+abbrev pub Plays : Line → Run → Option Done → Run → Type 0
+Plays (Lines.TheVariants.Call call) old answer new = (done : Done) × (called : Run) × (answer ≡ Some done) × Calls call old done called × OnlyGroups called.session new.session × (new ≡ record called { session = new.session })
+Plays (Lines.TheVariants.Terminal setting) old answer new = ((answer ≡ None) ⊎ (answer ≡ Some (only_answered (Ok 0)))) × (new ≡ record old { session = new.session })

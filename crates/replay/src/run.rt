@@ -1,5 +1,6 @@
 // A script's lines, made on one job.
-ghost use Rattle.replay.specs.Calls.{Calls};
+ghost use Rattle.std.specs.Prelude.{◌≡◌};
+ghost use Rattle.replay.specs.Calls.{Calls, Plays};
 
 use crate::answers::write_answer;
 use crate::line::{Line, read_answers, read_job, read_line};
@@ -55,7 +56,9 @@ impl Run {
     }
 
     // Does what a line says; none if there is no place for a group.
-    fn play(&mut self, line: Line) -> Option<Done> {
+    fn play(&mut self, line: Line) -> Option<Done>
+        ensures { Plays line self.old result self.new }
+    {
         match line {
             Line::Call(call) => {
                 let done = self.call(call);

@@ -1,4 +1,6 @@
 // The terminal of a script: a simulated one, also for one that is absent and for one whose session has every group.
+ghost use Rattle.replay.specs.Terminals.{OnlyGroups};
+
 use crate::setting::Setting;
 use foreground::group::Group;
 use foreground::process::Handling;
@@ -51,7 +53,9 @@ impl Session {
         Session::with(Group { number: 1 }, Groups::Absent, None)
     }
 
-    fn put(&mut self, place: usize, member: Member) {
+    fn put(&mut self, place: usize, member: Member)
+        ensures { OnlyGroups self.old self.new }
+    {
         if place < PLACES {
             self.places[place] = Some(member.group);
         }
@@ -65,7 +69,9 @@ impl Session {
     }
 
     // Lists a group; the own one is in the session, and not empty, whatever is said of it.
-    fn list(&mut self, member: Member) -> bool {
+    fn list(&mut self, member: Member) -> bool
+        ensures { OnlyGroups self.old self.new }
+    {
         match self.place_of(member.group) {
             Some(OWN) => true,
             Some(place) => {
@@ -112,7 +118,9 @@ impl Session {
     }
 
     // Where every group is in the session, the group of a child that was spawned is.
-    pub(crate) fn admit(&mut self, records: &[Record]) {
+    pub(crate) fn admit(&mut self, records: &[Record])
+        ensures { OnlyGroups self.old self.new }
+    {
         if self.groups != Groups::All {
             return;
         }
