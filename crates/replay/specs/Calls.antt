@@ -1,5 +1,5 @@
 -- What a call of a script does to the job, its host, its terminal and the sheet.
-use Rattle.std.specs.Prelude.{◌≡◌, ◌⊎◌, ℤ, Vec, Option, Some, None, Ok}
+use Rattle.std.specs.Prelude.{◌≡◌, ◌⊎◌, ℕ, ℤ, List, ◌++◌, take, Vec, Option, Some, None, Ok}
 use Rattle.std.specs.declared.alloc.Global.{Global}
 use Rattle.host.specs.declared.process.Host as Host
 use Rattle.host.specs.declared.terminal.Terminal as Terminal
@@ -15,6 +15,7 @@ use Rattle.drive.specs.Calls.{Makes}
 use Rattle.replay.specs.declared.line.Line.{Line}
 use Rattle.replay.specs.declared.line.Line as Lines
 use Rattle.replay.specs.declared.run.Run.{Run}
+use Rattle.replay.specs.Printed.{call_text}
 use Rattle.replay.specs.Terminals.{OnlyGroups}
 
 abbrev pub moment : Run → Moment (PreparedHost (Vec ℤ Global)) SimulatedTerminal
@@ -35,3 +36,7 @@ Calls call old done new = Makes by_prepared by_simulated call (moment old) done 
 abbrev pub Plays : Line → Run → Option Done → Run → Type 0
 Plays (Lines.TheVariants.Call call) old answer new = (done : Done) × (called : Run) × (answer ≡ Some done) × Calls call old done called × OnlyGroups called.session new.session × (new ≡ record called { session = new.session })
 Plays (Lines.TheVariants.Terminal setting) old answer new = ((answer ≡ None) ⊎ (answer ≡ Some (only_answered (Ok 0)))) × (new ≡ record old { session = new.session })
+
+-- what is printed of a line is what its call answered, and the records that it wrote
+abbrev pub Adds : ℕ → Run → List ℕ → Run → List ℕ → Type 0
+Adds number old before new text = (line : Line) × (done : Done) × (letter : List ℕ) × Plays line old (Some done) new × (text ≡ before ++ call_text number letter done.answer (take done.records new.sheet))

@@ -1,5 +1,5 @@
 // The text of an answer and its records, as a rehearsal prints them.
-ghost use Rattle.std.specs.Prelude.{◌≡◌, ◌++◌, OnOk, Some, string_bytes};
+ghost use Rattle.std.specs.Prelude.{◌≡◌, ◌++◌, OnOk, Some, string_bytes, take};
 ghost use Rattle.std.specs.List.{flat_map};
 ghost use Rattle.replay.specs.Printed.{call_text, record_text};
 
@@ -36,20 +36,20 @@ fn write_records(text: &mut String, records: &[Record]) -> Result<(), AllocError
     Ok(())
 }
 
-// Adds what the line of this number and letter answers, and the records that it wrote.
+// Adds what the line of this number and letter answers, and the records that it wrote on the sheet.
 pub(crate) fn write_answer(
     text: &mut String,
     number: usize,
     letter: &str,
     done: Done,
-    records: &[Record],
+    sheet: &[Record],
 ) -> Result<(), AllocError>
-    ensures { OnOk result (string_bytes text.new ≡ string_bytes text.old ++ call_text number letter.now done.answer records.now) }
+    ensures { OnOk result (string_bytes text.new ≡ string_bytes text.old ++ call_text number letter.now done.answer (take done.records sheet.now)) }
 {
     let (refusal, value) = match done.answer {
         Ok(value) => (0, value),
         Err(refusal) => (u8::from(refusal), 0),
     };
     writeln!(text, "{number}\t{letter}\t{refusal}\t{value}")?;
-    write_records(text, records)
+    write_records(text, &sheet[..done.records.min(sheet.len())])
 }

@@ -1,6 +1,6 @@
 // A script's lines, made on one job.
-ghost use Rattle.std.specs.Prelude.{◌≡◌};
-ghost use Rattle.replay.specs.Calls.{Calls, Plays};
+ghost use Rattle.std.specs.Prelude.{◌≡◌, OnOk, string_bytes};
+ghost use Rattle.replay.specs.Calls.{Adds, Calls, Plays};
 
 use crate::answers::write_answer;
 use crate::line::{Line, read_answers, read_job, read_line};
@@ -71,12 +71,13 @@ impl Run {
     }
 
     // Adds what the line of this number answers.
-    fn add(&mut self, text: &mut String, number: usize, read: &str) -> Result<(), ScriptError> {
+    fn add(&mut self, text: &mut String, number: usize, read: &str) -> Result<(), ScriptError>
+        ensures { OnOk result (Adds number self.old (string_bytes text.old) self.new (string_bytes text.new)) }
+    {
         let said = read_line(read).ok_or(ScriptError::Line(number))?;
         let done = self.play(said).ok_or(ScriptError::Line(number))?;
         let letter = read.split_once('\t').map_or("", |fields| fields.0);
-        let records = done.records.min(LEAST_PLACES);
-        write_answer(text, number, letter, done, &self.sheet[..records])?;
+        write_answer(text, number, letter, done, &self.sheet)?;
         Ok(())
     }
 }
