@@ -69,7 +69,7 @@ fn write_records(text: &mut String, records: &[Record]) -> Result<(), AllocError
 }
 
 // Adds what the line of this number prints: its letter, refusal and value, and the records that it wrote on the sheet.
-pub(crate) fn write_line(
+pub fn write_line(
     text: &mut String,
     number: usize,
     letter: char,

@@ -12,10 +12,10 @@ use Rattle.drive.specs.declared.calls.Call.{Call}
 use Rattle.drive.specs.declared.calls.Done.{Done}
 use Rattle.drive.specs.Answers.{only_answered}
 use Rattle.drive.specs.Calls.{Makes}
+use Rattle.rehearsal.specs.Printed.{line_text}
 use Rattle.replay.specs.declared.line.Line.{Line}
 use Rattle.replay.specs.declared.line.Line as Lines
 use Rattle.replay.specs.declared.run.Run.{Run}
-use Rattle.replay.specs.Printed.{call_text}
 use Rattle.replay.specs.Terminals.{OnlyGroups}
 
 abbrev pub moment : Run → Moment (PreparedHost (Vec ℤ Global)) SimulatedTerminal
@@ -39,4 +39,4 @@ Plays (Lines.TheVariants.Terminal setting) old answer new = ((answer ≡ None) �
 
 -- what is printed of a line is what its call answered, and the records that it wrote
 abbrev pub Adds : ℕ → Run → List ℕ → Run → List ℕ → Type 0
-Adds number old before new text = (line : Line) × (done : Done) × (letter : List ℕ) × Plays line old (Some done) new × (text ≡ before ++ call_text number letter done.answer (take done.records new.sheet))
+Adds number old before new text = (line : Line) × (done : Done) × (letter : ℕ) × Plays line old (Some done) new × (text ≡ before ++ line_text number letter done.answer (take done.records new.sheet))

@@ -1,5 +1,4 @@
 -- The definitions of what is found of recorded scripts.
 pub mod Calls
-pub mod Printed
 pub mod Terminals
 pub mod Verdict

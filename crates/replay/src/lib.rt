@@ -1,7 +1,6 @@
 // Scripts that were run on the Rust are run on the job, and what the two answer is compared.
 #![tactic(auto)]
 
-mod answers;
 mod controls;
 mod line;
 mod numbers;

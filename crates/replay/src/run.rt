@@ -2,13 +2,13 @@
 ghost use Rattle.std.specs.Prelude.{◌≡◌, OnOk, string_bytes};
 ghost use Rattle.replay.specs.Calls.{Adds, Calls, Plays};
 
-use crate::answers::write_answer;
 use crate::line::{Line, read_answers, read_job, read_line};
 use crate::session::Session;
 use drive::calls::{Call, Done};
 use drive::runs;
 use host::journal::Record;
 use hosts::prepared::PreparedHost;
+use rehearsal::write_line;
 use std::alloc::{AllocError, Global};
 use supervisor::job::{Job, LEAST_PLACES};
 
@@ -70,14 +70,14 @@ impl Run {
         }
     }
 
-    // Adds what the line of this number answers.
+    // Adds what the line of this number answers, in the form of a rehearsal; a line's letter is its first field.
     fn add(&mut self, text: &mut String, number: usize, read: &str) -> Result<(), ScriptError>
         ensures { OnOk result (Adds number self.old (string_bytes text.old) self.new (string_bytes text.new)) }
     {
         let said = read_line(read).ok_or(ScriptError::Line(number))?;
         let done = self.play(said).ok_or(ScriptError::Line(number))?;
-        let letter = read.split_once('\t').map_or("", |fields| fields.0);
-        write_answer(text, number, letter, done, &self.sheet)?;
+        let letter = read.chars().next().ok_or(ScriptError::Line(number))?;
+        write_line(text, number, letter, done, &self.sheet)?;
         Ok(())
     }
 }
