@@ -12,9 +12,8 @@ mod token;
 ghost use Rattle.std.specs.Prelude.{◌≡◌, IfOk, string_bytes};
 ghost use Rattle.rehearsal.specs.Printed.{rehearsed};
 
-pub use crate::print::write_line;
-
 use crate::print::fault_line;
+pub use crate::print::write_line;
 use crate::run::Rehearsal;
 use crate::script::ReadError;
 use std::alloc::{AllocError, Global};
