@@ -12,6 +12,7 @@ mod token;
 ghost use Rattle.std.specs.Prelude.{◌≡◌, IfOk, string_bytes};
 ghost use Rattle.rehearsal.specs.Printed.{rehearsed};
 
+pub use crate::line::{Line, parse};
 use crate::print::fault_line;
 pub use crate::print::write_line;
 use crate::run::Rehearsal;

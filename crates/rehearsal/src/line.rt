@@ -198,7 +198,7 @@ fn read_fields(letter: char, fields: &[u8], first: bool) -> Option<Line>
 }
 
 // What a line without its line feed says; none for a faulty one.
-pub(crate) fn parse(line: &[u8], first: bool) -> Option<Line>
+pub fn parse(line: &[u8], first: bool) -> Option<Line>
     ensures { result ≡ line_of first line.now }
 {
     let (letter, fields) = lettered(line)?;

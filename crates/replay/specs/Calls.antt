@@ -1,5 +1,6 @@
 -- What a call of a script does to the job, its host, its terminal and the sheet.
-use Rattle.std.specs.Prelude.{◌≡◌, ◌⊎◌, ℕ, ℤ, List, ◌++◌, take, Vec, Option, Some, None, Ok}
+use Rattle.std.specs.Prelude.{◌≡◌, ◌⊎◌, ℕ, ℤ, List, ◌++◌, slice_get, take, Vec, Option, Some, None, Ok}
+use Rattle.std.specs.Str.{chars}
 use Rattle.std.specs.declared.alloc.Global.{Global}
 use Rattle.host.specs.declared.process.Host as Host
 use Rattle.host.specs.declared.terminal.Terminal as Terminal
@@ -37,6 +38,6 @@ abbrev pub Plays : Line → Run → Option Done → Run → Type 0
 Plays (Lines.TheVariants.Call call) old answer new = (done : Done) × (called : Run) × (answer ≡ Some done) × Calls call old done called × OnlyGroups called.session new.session × (new ≡ record called { session = new.session })
 Plays (Lines.TheVariants.Terminal setting) old answer new = ((answer ≡ None) ⊎ (answer ≡ Some (only_answered (Ok 0)))) × (new ≡ record old { session = new.session })
 
--- what is printed of a line is what its call answered, and the records that it wrote
-abbrev pub Adds : ℕ → Run → List ℕ → Run → List ℕ → Type 0
-Adds number old before new text = (line : Line) × (done : Done) × (letter : ℕ) × Plays line old (Some done) new × (text ≡ before ++ line_text number letter done.answer (take done.records new.sheet))
+-- what is printed of a line is its first character, what its call answered, and the records that it wrote
+abbrev pub Adds : ℕ → List ℕ → Run → List ℕ → Run → List ℕ → Type 0
+Adds number read old before new text = (line : Line) × (done : Done) × (letter : ℕ) × (slice_get (chars read) 0 ≡ Some letter) × Plays line old (Some done) new × (text ≡ before ++ line_text number letter done.answer (take done.records new.sheet))

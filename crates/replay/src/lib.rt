@@ -7,7 +7,6 @@ mod numbers;
 mod recorded;
 mod report;
 mod run;
-mod sends;
 mod session;
 mod setting;
 mod verdict;

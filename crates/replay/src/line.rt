@@ -1,11 +1,9 @@
 // What a line of a script says.
 use crate::controls::read_control;
-use crate::numbers::{one, signal_of, two};
-use crate::sends::read_send;
+use crate::numbers::two;
 use crate::setting::{Setting, read_setting};
 use drive::calls::Call;
 use std::alloc::{AllocError, Global};
-use supervisor::answers::StepKind;
 use supervisor::job::Job;
 use supervisor::sends::Send;
 
@@ -15,44 +13,22 @@ pub(crate) enum Line {
     Terminal(Setting),
 }
 
-fn step_kind(letter: &str) -> Option<StepKind> {
-    match letter {
-        "e" => Some(StepKind::Child),
-        "p" => Some(StepKind::Pause),
-        "c" => Some(StepKind::Control),
+// The calls stand as in a rehearsal.
+fn call(text: &str) -> Option<Call> {
+    match rehearsal::parse(text.as_bytes(), false)? {
+        rehearsal::Line::Call(call) => Some(call),
         _ => None,
     }
 }
 
-fn step(fields: &str) -> Option<Call> {
-    let (letter, time) = fields.split_once('\t')?;
-    Some(Call::Step {
-        kind: step_kind(letter)?,
-        time: one(time)?,
-    })
-}
-
-fn call(letter: &str, fields: &str) -> Option<Call> {
-    match letter {
-        "c" => read_send(fields).map(Call::Send),
-        "k" => read_control(fields).map(|control| Call::Send(Send::Control(control))),
-        "s" => step(fields),
-        "p" => one(fields).map(|signal| {
-            Call::Pause {
-                signal: signal_of(signal),
-            }
-        }),
-        "l" => one(fields).map(|ticket| Call::Look { ticket }),
-        "g" => one(fields).map(|ticket| Call::Collect { ticket }),
-        _ => None,
-    }
-}
-
-// A line behind the first two: a call on the job, or a setting of its terminal.
+// A line behind the first two: a call on the job, or a setting of its terminal. A line `k` sends any control.
 pub(crate) fn read_line(text: &str) -> Option<Line> {
     match text.split_once('\t')? {
         ("t", fields) => read_setting(fields).map(Line::Terminal),
-        (letter, fields) => call(letter, fields).map(Line::Call),
+        ("k", fields) => {
+            read_control(fields).map(|control| Line::Call(Call::Send(Send::Control(control))))
+        }
+        _ => call(text).map(Line::Call),
     }
 }
 
