@@ -3,7 +3,7 @@ use Rattle.std.proofs.Common.{◌≡◌, ◌+◌, ◌%◌, ◌^◌, List, [], �
 use Rattle.std.proofs.lemmas.Grind.{common_steps}
 use Rattle.host.specs.Calls.{Event}
 use Rattle.host.specs.Journal.{journal}
-use Rattle.host.specs.Books.{HostBook, host_moved, host_along, spawns_in}
+use Rattle.host.specs.Books.{HostBook, host_book_after, host_along, spawns_in}
 use Rattle.drive.specs.Answers.{spawn_records}
 
 -- the records of a trace have the spawns of its calls
@@ -14,4 +14,4 @@ journal-spawns ((c, a) ∷ p) = grind (arith, common_steps, journal-spawns p)
 -- the count of spawns of a host's book, along a trace
 pub along_spawns : (b : HostBook) (p : List Event) → (host_along b p).spawns % 2 ^ 64 ≡ (b.spawns + spawns_in p) % 2 ^ 64
 along_spawns b [] = omega arith
-along_spawns b ((c, a) ∷ p) = grind (arith, along_spawns (host_moved b c a) p)
+along_spawns b ((c, a) ∷ p) = grind (arith, along_spawns (host_book_after b c a) p)

@@ -7,8 +7,8 @@ use Rattle.std.proofs.lemmas.Bool.Decides.{nat_tests}
 use Rattle.std.proofs.lemmas.Grind.{common_steps}
 use Rattle.host.specs.declared.process.Host as Host
 use Rattle.host.specs.declared.terminal.Terminal as Terminal
-use Rattle.host.specs.Interaction.{done, Answered}
-use Rattle.tickets.specs.Tickets.{found}
+use Rattle.host.specs.Interaction.{done, IsAnswered}
+use Rattle.tickets.specs.Tickets.{mark_of}
 use Rattle.task.specs.Messages.{orders}
 use Rattle.task.specs.Task as Tree
 use Rattle.task.specs.Task.{TaskView}
@@ -18,81 +18,81 @@ use Rattle.task.proofs.Books.{Books, moved}
 use Rattle.supervisor.specs.declared.answers.StepKind.{StepKind}
 use Rattle.supervisor.specs.declared.answers.StepKind.TheVariants.{Control, Child, Pause}
 use Rattle.supervisor.specs.declared.errors.Refusal.{Refusal}
-use Rattle.supervisor.specs.Job.{JobView, Stepping, send, look, collect, carried, carry_out, watched, pause_taken, tree_of}
+use Rattle.supervisor.specs.Job.{JobView, StepEnd, send, look, collect, control_end, carry_out, poll_end, pause_end, tree_of}
 use Rattle.supervisor.specs.declared.sends.Send.{Send}
 use Rattle.supervisor.specs.Job as Spec
 use Rattle.supervisor.specs.Mailbox as Mail
-use Rattle.supervisor.specs.Mailbox.{Taken, take, may_send}
+use Rattle.supervisor.specs.Mailbox.{TakeResult, take, may_send}
 use Rattle.supervisor.specs.Sends.{priority_of, controls_of}
-use Rattle.supervisor.specs.Steps.{Moment, moment, job_view, stepping, Steps}
+use Rattle.supervisor.specs.Steps.{Moment, moment, job_view, step_end, Steps}
 use Rattle.supervisor.specs.Timers.{memory}
 use Rattle.drive.specs.declared.calls.Call.{Call}
 use Rattle.drive.specs.declared.calls.Call.TheVariants as Calls
 use Rattle.drive.specs.declared.calls.Done.{Done}
-use Rattle.drive.specs.Calls.{Makes, Quiet, known, paused, collected}
+use Rattle.drive.specs.Calls.{Makes, AnswersAlone, known_ticket, pause_value, collect_value}
 use Rattle.tickets.proofs.Tables.{goes_again}
 use Rattle.supervisor.specs.declared.answers.Stepped.{Stepped}
 use Rattle.drive.specs.Answers.{step_done}
 use Rattle.drive.proofs.Steps.{makes-spawns}
-use Rattle.drive.specs.Laws.{accepted, collects, Fair}
+use Rattle.drive.specs.Laws.{accepted_controls, collects, IsFair}
 use Rattle.drive.proofs.Mailboxes.{Moves, any, still_moves, carried_moves, after_poll_moves, send_moves, vacate_moves}
 
 -- STEPS
 
 -- what a step that ends so makes of the mailbox of the job v
-abbrev Ends : JobView → Stepping → Type 0
+abbrev Ends : JobView → StepEnd → Type 0
 Ends v s = Moves 0 0 (from_bool s.ordered) any v.mailbox s.view.mailbox
 
 step_always : (kind : StepKind) (own time : ℕ) (v : JobView) (b : Books) → Every.Always moved (λ _ s. Ends v s) b (tree_of kind own time v)
 step_always Control own time v b = by (take time v.mailbox) refl
   where
-    by : (k : Taken) → take time v.mailbox ≡ k → Every.Always moved (λ _ s. Ends v s) b (carry_out k time v)
+    by : (k : TakeResult) → take time v.mailbox ≡ k → Every.Always moved (λ _ s. Ends v s) b (carry_out k time v)
     by None e = still_moves any v.mailbox v.mailbox refl refl
-    by (Some (r, n)) e = always_then moved (λ _ _. ⊤) (λ _ s. Ends v s) b (Tree.control r.message.control time v.task) (λ x. done (carried time r n x)) (always_any moved (λ _ _. ⊤) (λ _ _. tt) b (Tree.control r.message.control time v.task)) (λ u x _. carried_moves time v.mailbox r n x.1 e)
+    by (Some (r, n)) e = always_then moved (λ _ _. ⊤) (λ _ s. Ends v s) b (Tree.control r.message.control time v.task) (λ x. done (control_end time r n x)) (always_any moved (λ _ _. ⊤) (λ _ _. tt) b (Tree.control r.message.control time v.task)) (λ u x _. carried_moves time v.mailbox r n x.1 e)
 step_always Child own time v b =
     let restart = is_some (memory v.mailbox.timer) in
-    always_then moved (λ _ _. ⊤) (λ _ s. Ends v s) b (Tree.poll_child restart time v.task) (λ x. done (watched time v x)) (always_any moved (λ _ _. ⊤) (λ _ _. tt) b (Tree.poll_child restart time v.task)) (λ u x _. after_poll_moves x.1 v.mailbox)
-step_always Pause own time v b = always_then moved (λ _ _. ⊤) (λ _ s. Ends v s) b (Tree.pause own v.task) (λ x. done (pause_taken time v x)) (always_any moved (λ _ _. ⊤) (λ _ _. tt) b (Tree.pause own v.task)) (λ u x _. still_moves any v.mailbox v.mailbox refl refl)
+    always_then moved (λ _ _. ⊤) (λ _ s. Ends v s) b (Tree.poll_child restart time v.task) (λ x. done (poll_end time v x)) (always_any moved (λ _ _. ⊤) (λ _ _. tt) b (Tree.poll_child restart time v.task)) (λ u x _. after_poll_moves x.1 v.mailbox)
+step_always Pause own time v b = always_then moved (λ _ _. ⊤) (λ _ s. Ends v s) b (Tree.pause own v.task) (λ x. done (pause_end time v x)) (always_any moved (λ _ _. ⊤) (λ _ _. tt) b (Tree.pause own v.task)) (λ u x _. still_moves any v.mailbox v.mailbox refl refl)
 
 -- CALLS THAT ASK NOTHING OUTSIDE
 
 -- what such a call makes of a mailbox, by what it answers
 abbrev Keeps : Call → JobView → JobView × Result ℕ Refusal → Type 0
-Keeps c v x = Moves (length (accepted c v.closed x.1)) (count_by orders (accepted c v.closed x.1)) 0 (λ s. not (collects c s)) v.mailbox x.0.mailbox
+Keeps c v x = Moves (length (accepted_controls c v.closed x.1)) (count_by orders (accepted_controls c v.closed x.1)) 0 (λ s. not (collects c s)) v.mailbox x.0.mailbox
 
 send_keeps : (s : Send) (v : JobView) → Keeps (Calls.Send s) v (send s v)
 send_keeps s v = by v.closed
   where
     out : Bool → JobView × Result ℕ Refusal
-    out closed = if closed then (v, Ok 0) else Spec.sent (Mail.send (priority_of s) (controls_of s) v.mailbox) v
+    out closed = if closed then (v, Ok 0) else Spec.after_send (Mail.send (priority_of s) (controls_of s) v.mailbox) v
 
-    admits : (r : Result ⊤ Refusal) → Moves (length (accepted (Calls.Send s) false (Mail.sent r (priority_of s) (controls_of s) v.mailbox).1)) (count_by orders (accepted (Calls.Send s) false (Mail.sent r (priority_of s) (controls_of s) v.mailbox).1)) 0 any v.mailbox (Mail.sent r (priority_of s) (controls_of s) v.mailbox).0
+    admits : (r : Result ⊤ Refusal) → Moves (length (accepted_controls (Calls.Send s) false (Mail.send_if r (priority_of s) (controls_of s) v.mailbox).1)) (count_by orders (accepted_controls (Calls.Send s) false (Mail.send_if r (priority_of s) (controls_of s) v.mailbox).1)) 0 any v.mailbox (Mail.send_if r (priority_of s) (controls_of s) v.mailbox).0
     admits (Ok u) = send_moves (priority_of s) (controls_of s) v.mailbox
     admits (Err r) = still_moves any v.mailbox v.mailbox refl refl
 
-    by : (closed : Bool) → Moves (length (accepted (Calls.Send s) closed (out closed).1)) (count_by orders (accepted (Calls.Send s) closed (out closed).1)) 0 any v.mailbox (out closed).0.mailbox
+    by : (closed : Bool) → Moves (length (accepted_controls (Calls.Send s) closed (out closed).1)) (count_by orders (accepted_controls (Calls.Send s) closed (out closed).1)) 0 any v.mailbox (out closed).0.mailbox
     by true = still_moves any v.mailbox v.mailbox refl refl
     by false = admits (may_send (priority_of s) (controls_of s) v.mailbox)
 
-pause_keeps : (signal : ℕ) (v : JobView) → Keeps (Calls.Pause signal) v (paused signal v)
-pause_keeps signal v = still_moves any v.mailbox (paused signal v).0.mailbox (grind (arith, common_steps)) (grind (arith, common_steps))
+pause_keeps : (signal : ℕ) (v : JobView) → Keeps (Calls.Pause signal) v (pause_value signal v)
+pause_keeps signal v = still_moves any v.mailbox (pause_value signal v).0.mailbox (grind (arith, common_steps)) (grind (arith, common_steps))
 
-collect_keeps : (ticket : ℕ) (v : JobView) → Keeps (Calls.Collect ticket) v (collected (known ticket) v)
-collect_keeps ticket v = by (known ticket) refl
+collect_keeps : (ticket : ℕ) (v : JobView) → Keeps (Calls.Collect ticket) v (collect_value (known_ticket ticket) v)
+collect_keeps ticket v = by (known_ticket ticket) refl
   where
     stays : (w : JobView) → w.mailbox ≡ v.mailbox → Moves 0 0 0 (λ s. not (ticket == s)) v.mailbox w.mailbox
     stays w e = still_moves (λ s. not (ticket == s)) v.mailbox w.mailbox (rw e refl) (rw e refl)
 
-    done : (x : Result Bool Refusal) → Moves 0 0 0 (λ s. not (ticket == s)) v.mailbox (Spec.collected x ticket v).0.mailbox
+    done : (x : Result Bool Refusal) → Moves 0 0 0 (λ s. not (ticket == s)) v.mailbox (Spec.collect_if x ticket v).0.mailbox
     done (Ok true) = vacate_moves ticket v.mailbox
     done (Ok false) = stays v refl
     done (Err r) = stays v refl
 
-    given : (zero : Bool) → Moves 0 0 0 (λ s. not (ticket == s)) v.mailbox (if zero then (v, Ok tt) else Spec.collected (Spec.looked v.closed (found ticket v.mailbox.tickets.table)) ticket v).0.mailbox
+    given : (zero : Bool) → Moves 0 0 0 (λ s. not (ticket == s)) v.mailbox (if zero then (v, Ok tt) else Spec.collect_if (Spec.is_done v.closed (mark_of ticket v.mailbox.tickets.table)) ticket v).0.mailbox
     given true = stays v refl
-    given false = done (Spec.looked v.closed (found ticket v.mailbox.tickets.table))
+    given false = done (Spec.is_done v.closed (mark_of ticket v.mailbox.tickets.table))
 
-    by : (k : Result ℕ Refusal) → known ticket ≡ k → Moves 0 0 0 (λ s. not (ticket == s)) v.mailbox (collected k v).0.mailbox
+    by : (k : Result ℕ Refusal) → known_ticket ticket ≡ k → Moves 0 0 0 (λ s. not (ticket == s)) v.mailbox (collect_value k v).0.mailbox
     by (Ok t) e =
         let same : t ≡ ticket = grind (arith, nat_tests, e) in
         rw same (given (ticket == 0))
@@ -111,7 +111,7 @@ module _ {H T : Type 0} (by_host : Host.Ghosts H) (by_terminal : Terminal.Ghosts
   kept a b (Ok x) e = tt
   kept a b (Err x) e = e
 
-  quiet_fair : (c : Call) (f : JobView → JobView × Result ℕ Refusal) → ((v : JobView) → Keeps c v (f v)) → (a : Moment H T) (d : Done) (b : Moment H T) → Quiet by_host by_terminal f a d b → Makes by_host by_terminal c a d b → Fair by_host by_terminal c a d b
+  quiet_fair : (c : Call) (f : JobView → JobView × Result ℕ Refusal) → ((v : JobView) → Keeps c v (f v)) → (a : Moment H T) (d : Done) (b : Moment H T) → AnswersAlone by_host by_terminal f a d b → Makes by_host by_terminal c a d b → IsFair by_host by_terminal c a d b
   quiet_fair c f k a d b q made =
       let moves : Keeps c (job_view a.job) (job_view b.job, d.answer) = subst (λ (x : JobView × Result ℕ Refusal). Keeps c (job_view a.job) x) (sym q.answers.answer) (k (job_view a.job)) in
       record {
@@ -122,23 +122,23 @@ module _ {H T : Type 0} (by_host : Host.Ghosts H) (by_terminal : Terminal.Ghosts
         refused = unchanged a b d.answer q.answers.unchanged q.host q.terminal q.sheet;
       }
 
-  step_fair : (kind : StepKind) (time : ℕ) (a : Moment H T) (d : Done) (b : Moment H T) → Makes by_host by_terminal (Calls.Step kind time) a d b → Fair by_host by_terminal (Calls.Step kind time) a d b
+  step_fair : (kind : StepKind) (time : ℕ) (a : Moment H T) (d : Done) (b : Moment H T) → Makes by_host by_terminal (Calls.Step kind time) a d b → IsFair by_host by_terminal (Calls.Step kind time) a d b
   step_fair kind time a d b made = by made.answer made.step made.does
     where
       own : ℕ
       own = (by_terminal.book a.terminal).own
 
-      by : (r : Result Stepped Refusal) → Steps by_host by_terminal (tree_of kind own) time a r b → d ≡ step_done r b.sheet → Fair by_host by_terminal (Calls.Step kind time) a d b
-      by (Err r) h e = record { issued = grind (arith, h.1); taken = grind (arith, h.1, e); spawned = makes-spawns by_host by_terminal (Calls.Step kind time) a d b made; tickets = λ s l _. rw h.1 (goes_again (found s (job_view a.job).mailbox.tickets.table)); refused = rw e h.1 }
+      by : (r : Result Stepped Refusal) → Steps by_host by_terminal (tree_of kind own) time a r b → d ≡ step_done r b.sheet → IsFair by_host by_terminal (Calls.Step kind time) a d b
+      by (Err r) h e = record { issued = grind (arith, h.1); taken = grind (arith, h.1, e); spawned = makes-spawns by_host by_terminal (Calls.Step kind time) a d b made; tickets = λ s l _. rw h.1 (goes_again (mark_of s (job_view a.job).mailbox.tickets.table)); refused = rw e h.1 }
       by (Ok s) h e =
           let run = h.1.conducts in
           let nothing : Books = record { roster = []; grants = 0; tried = 0 } in
-          let moves : Ends (job_view a.job) (stepping b.job s) = always_traced moved (Answered by_host by_terminal) (λ _ x. Ends (job_view a.job) x) nothing (tree_of kind own time (job_view a.job)) _ _ run.trace (stepping b.job s) (step_always kind own time (job_view a.job) nothing) run.traces in
+          let moves : Ends (job_view a.job) (step_end b.job s) = always_traced moved (IsAnswered by_host by_terminal) (λ _ x. Ends (job_view a.job) x) nothing (tree_of kind own time (job_view a.job)) _ _ run.trace (step_end b.job s) (step_always kind own time (job_view a.job) nothing) run.traces in
           record { issued = moves.issued; taken = rw e moves.orders; spawned = makes-spawns by_host by_terminal (Calls.Step kind time) a d b made; tickets = λ k l _. moves.tickets k l refl; refused = rw e tt }
 
-  pub fair : (c : Call) (a : Moment H T) (d : Done) (b : Moment H T) → Makes by_host by_terminal c a d b → Fair by_host by_terminal c a d b
+  pub fair : (c : Call) (a : Moment H T) (d : Done) (b : Moment H T) → Makes by_host by_terminal c a d b → IsFair by_host by_terminal c a d b
   fair (Calls.Send s) a d b r = quiet_fair (Calls.Send s) (send s) (send_keeps s) a d b r r
   fair (Calls.Step kind time) a d b r = step_fair kind time a d b r
-  fair (Calls.Pause signal) a d b r = quiet_fair (Calls.Pause signal) (paused signal) (pause_keeps signal) a d b r r
-  fair (Calls.Look ticket) a d b r = record { issued = grind (arith, r.1); taken = grind (arith, r.0, r.1); spawned = makes-spawns by_host by_terminal (Calls.Look ticket) a d b r; tickets = λ s l _. rw r.1 (goes_again (found s (job_view a.job).mailbox.tickets.table)); refused = kept a b d.answer r.1 }
-  fair (Calls.Collect ticket) a d b r = quiet_fair (Calls.Collect ticket) (collected (known ticket)) (collect_keeps ticket) a d b r r
+  fair (Calls.Pause signal) a d b r = quiet_fair (Calls.Pause signal) (pause_value signal) (pause_keeps signal) a d b r r
+  fair (Calls.Look ticket) a d b r = record { issued = grind (arith, r.1); taken = grind (arith, r.0, r.1); spawned = makes-spawns by_host by_terminal (Calls.Look ticket) a d b r; tickets = λ s l _. rw r.1 (goes_again (mark_of s (job_view a.job).mailbox.tickets.table)); refused = kept a b d.answer r.1 }
+  fair (Calls.Collect ticket) a d b r = quiet_fair (Calls.Collect ticket) (collect_value (known_ticket ticket)) (collect_keeps ticket) a d b r r

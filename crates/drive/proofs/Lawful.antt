@@ -5,7 +5,7 @@ use Rattle.std.specs.Int.{from_bool}
 use Rattle.std.proofs.lemmas.Grind.{common_steps}
 use Rattle.host.specs.declared.process.Host as Host
 use Rattle.host.specs.declared.terminal.Terminal as Terminal
-use Rattle.host.specs.Interaction.{Answered}
+use Rattle.host.specs.Interaction.{IsAnswered}
 use Rattle.task.specs.declared.messages.Control.{Control}
 use Rattle.task.proofs.Traced.{after, fitting_host, fitting_terminal, fitting}
 use Rattle.supervisor.specs.declared.answers.StepKind.{StepKind}
@@ -17,17 +17,17 @@ use Rattle.supervisor.specs.Job as Spec
 use Rattle.supervisor.specs.declared.job.Job.{Job}
 use Rattle.supervisor.specs.Job.{JobView, send, children_of, runs, tree_of, may_step}
 use Rattle.supervisor.specs.Mailbox as Mail
-use Rattle.supervisor.specs.Mailbox.{MailboxView, admitted_all, admitted, may_send}
+use Rattle.supervisor.specs.Mailbox.{MailboxView, admit_all, admit, may_send}
 use Rattle.supervisor.specs.Sends.{priority_of, controls_of}
-use Rattle.supervisor.specs.Steps.{Moment, job_view, world_at, stepping, Steps}
-use Rattle.supervisor.specs.Timers.{owed}
+use Rattle.supervisor.specs.Steps.{Moment, job_view, world_at, step_end, Steps}
+use Rattle.supervisor.specs.Timers.{owed_starts}
 use Rattle.supervisor.proofs.Fits.{StepFits, step_traced}
 use Rattle.supervisor.proofs.Steps.{not_closed}
 use Rattle.drive.specs.declared.calls.Call.{Call}
 use Rattle.drive.specs.declared.calls.Call.TheVariants as Calls
 use Rattle.drive.specs.declared.calls.Done.{Done}
 use Rattle.drive.specs.Answers.{step_done}
-use Rattle.drive.specs.Calls.{Makes, Quiet, known, paused, collected}
+use Rattle.drive.specs.Calls.{Makes, AnswersAlone, known_ticket, pause_value, collect_value}
 use Rattle.drive.specs.Laws.{BooksFit}
 use Rattle.drive.proofs.Steps.{tried-spawns}
 
@@ -35,28 +35,28 @@ use Rattle.drive.proofs.Steps.{tried-spawns}
 record Same (v w : JobView) : Type 0 where
   children : children_of w ≡ children_of v
   grant : w.task.foreground.grant ≡ v.task.foreground.grant
-  owed : owed w.mailbox.timer ≡ owed v.mailbox.timer
+  owed : owed_starts w.mailbox.timer ≡ owed_starts v.mailbox.timer
 
-admitted_timer : (p : Priority) (cs : List Control) (m : MailboxView) → (admitted_all p cs m).timer ≡ m.timer
+admitted_timer : (p : Priority) (cs : List Control) (m : MailboxView) → (admit_all p cs m).timer ≡ m.timer
 admitted_timer p [] m = refl
 admitted_timer p (c ∷ []) m = refl
-admitted_timer p (c ∷ d ∷ cs) m = admitted_timer p (d ∷ cs) (admitted p c false m)
+admitted_timer p (c ∷ d ∷ cs) m = admitted_timer p (d ∷ cs) (admit p c false m)
 
 send_same : (s : Send) (v : JobView) → Same v (send s v).0
 send_same s v = by v.closed
   where
-    admits : (r : Result ⊤ Refusal) → Same v (Spec.sent (Mail.sent r (priority_of s) (controls_of s) v.mailbox) v).0
-    admits (Ok u) = record { children = refl; grant = refl; owed = ap owed (admitted_timer (priority_of s) (controls_of s) v.mailbox) }
+    admits : (r : Result ⊤ Refusal) → Same v (Spec.after_send (Mail.send_if r (priority_of s) (controls_of s) v.mailbox) v).0
+    admits (Ok u) = record { children = refl; grant = refl; owed = ap owed_starts (admitted_timer (priority_of s) (controls_of s) v.mailbox) }
     admits (Err r) = record { children = refl; grant = refl; owed = refl }
 
-    by : (closed : Bool) → Same v (if closed then (v, Ok 0) else Spec.sent (Mail.send (priority_of s) (controls_of s) v.mailbox) v).0
+    by : (closed : Bool) → Same v (if closed then (v, Ok 0) else Spec.after_send (Mail.send (priority_of s) (controls_of s) v.mailbox) v).0
     by true = record { children = refl; grant = refl; owed = refl }
     by false = admits (may_send (priority_of s) (controls_of s) v.mailbox)
 
-pause_same : (signal : ℕ) (v : JobView) → Same v (paused signal v).0
+pause_same : (signal : ℕ) (v : JobView) → Same v (pause_value signal v).0
 pause_same signal v = grind (arith, common_steps)
 
-collect_same : (ticket : ℕ) (v : JobView) → Same v (collected (known ticket) v).0
+collect_same : (ticket : ℕ) (v : JobView) → Same v (collect_value (known_ticket ticket) v).0
 collect_same ticket v = grind (arith, common_steps)
 
 -- a job that holds a grant runs a child
@@ -71,9 +71,9 @@ module _ {H T : Type 0} (by_host : Host.Ghosts H) (by_terminal : Terminal.Ghosts
   -- from the moment a to the moment b, by what was done
   pub record Goes (a : Moment H T) (d : Done) (b : Moment H T) : Type 0 where
     pub books : BooksFit by_host by_terminal a → BooksFit by_host by_terminal b
-    pub starts : owed (job_view b.job).mailbox.timer + d.tally.tried ≤ owed (job_view a.job).mailbox.timer + d.tally.ordered
+    pub starts : owed_starts (job_view b.job).mailbox.timer + d.tally.tried ≤ owed_starts (job_view a.job).mailbox.timer + d.tally.ordered
 
-  quiet_goes : (f : JobView → JobView × Result ℕ Refusal) → ((v : JobView) → Same v (f v).0) → (a : Moment H T) (d : Done) (b : Moment H T) → Quiet by_host by_terminal f a d b → Goes a d b
+  quiet_goes : (f : JobView → JobView × Result ℕ Refusal) → ((v : JobView) → Same v (f v).0) → (a : Moment H T) (d : Done) (b : Moment H T) → AnswersAlone by_host by_terminal f a d b → Goes a d b
   quiet_goes f k a d b q =
       let same : Same (job_view a.job) (job_view b.job) = subst (λ (w : JobView). Same (job_view a.job) w) (sym (ap (λ x. x.0) q.answers.answer)) (k (job_view a.job)) in
       record {
@@ -95,12 +95,12 @@ module _ {H T : Type 0} (by_host : Host.Ghosts H) (by_terminal : Terminal.Ghosts
       by (Ok s) h e =
           let run = h.1.conducts in
           let free = not_closed time (length a.sheet) v h.0 in
-          let fits = step_traced (Answered by_host by_terminal) kind own time v free a.job.granted (world_at a) (world_at b) run.trace (stepping b.job s) run.traces in
+          let fits = step_traced (IsAnswered by_host by_terminal) kind own time v free a.job.granted (world_at a) (world_at b) run.trace (step_end b.job s) run.traces in
           let tried = tried-spawns by_host by_terminal (tree_of kind own) time a b s h in
-          let starts : StepFits v (after (fitting_host v.task) (fitting_terminal v.task) run.trace) (stepping b.job s) = fits (fitting_host v.task) (fitting_terminal v.task) (fitting v.task) in
+          let starts : StepFits v (after (fitting_host v.task) (fitting_terminal v.task) run.trace) (step_end b.job s) = fits (fitting_host v.task) (fitting_terminal v.task) (fitting v.task) in
           record {
             books = λ f.
-                let step : StepFits v (after (by_host.book a.host) (by_terminal.book a.terminal) run.trace) (stepping b.job s) = fits (by_host.book a.host) (by_terminal.book a.terminal) (record { roster = rw free at f.roster; grants = f.grants }) in
+                let step : StepFits v (after (by_host.book a.host) (by_terminal.book a.terminal) run.trace) (step_end b.job s) = fits (by_host.book a.host) (by_terminal.book a.terminal) (record { roster = rw free at f.roster; grants = f.grants }) in
                 record { roster = ap (λ x. x.roster) h.1.host_book ∙ step.1; grants = ap (λ x. x.grants) h.1.terminal_book ∙ step.2; holder = holds b.job };
             starts = rw e (omega (arith, starts.3, tried));
           }
@@ -108,6 +108,6 @@ module _ {H T : Type 0} (by_host : Host.Ghosts H) (by_terminal : Terminal.Ghosts
   pub goes : (c : Call) (a : Moment H T) (d : Done) (b : Moment H T) → Makes by_host by_terminal c a d b → Goes a d b
   goes (Calls.Send s) a d b r = quiet_goes (send s) (send_same s) a d b r
   goes (Calls.Step kind time) a d b r = step_goes kind time a d b r
-  goes (Calls.Pause signal) a d b r = quiet_goes (paused signal) (pause_same signal) a d b r
+  goes (Calls.Pause signal) a d b r = quiet_goes (pause_value signal) (pause_same signal) a d b r
   goes (Calls.Look ticket) a d b r = record { books = λ f. rw r.1 f; starts = rw (r.1, r.0) (omega arith) }
-  goes (Calls.Collect ticket) a d b r = quiet_goes (collected (known ticket)) (collect_same ticket) a d b r
+  goes (Calls.Collect ticket) a d b r = quiet_goes (collect_value (known_ticket ticket)) (collect_same ticket) a d b r

@@ -13,19 +13,19 @@ use Rattle.task.specs.declared.messages.Control.TheVariants.{NextEnding}
 use Rattle.task.specs.declared.task.Outcome.{Outcome}
 use Rattle.task.specs.declared.task.PollOutcome.{PollOutcome}
 use Rattle.task.specs.Task as Tree
-use Rattle.task.specs.Task.{TaskView, closes, Granted, Timed}
+use Rattle.task.specs.Task.{TaskView, closes, GrantMeansRunning, MaySetTimer}
 use Rattle.task.proofs.Traced.{control_traced, fitting}
 use Rattle.supervisor.specs.declared.answers.StepKind.{StepKind}
 use Rattle.supervisor.specs.declared.answers.StepKind.TheVariants as Kinds
 use Rattle.supervisor.specs.declared.mailbox.Received as Message
-use Rattle.supervisor.specs.Job.{JobView, Stepping, carried, carry_out, watched, pause_taken, tree_of}
+use Rattle.supervisor.specs.Job.{JobView, StepEnd, control_end, carry_out, poll_end, pause_end, tree_of}
 use Rattle.supervisor.specs.Mailbox as Mail
-use Rattle.supervisor.specs.Mailbox.{MailboxView, Taken, settle, after_poll}
-use Rattle.supervisor.specs.Sound.{InOrder}
+use Rattle.supervisor.specs.Mailbox.{MailboxView, TakeResult, settle, settle_poll}
+use Rattle.supervisor.specs.Sound.{IsInOrder}
 use Rattle.supervisor.proofs.Mailboxes.{take_in}
 use Rattle.drive.specs.Original as Original
-use Rattle.drive.specs.Original.{Amended}
-use Rattle.drive.specs.Follows.{heard, Follows, Agrees, is_launch, Apart}
+use Rattle.drive.specs.Original.{Amendments}
+use Rattle.drive.specs.Follows.{heard_calls, Follows, Agrees, is_launch, IsApart}
 use Rattle.drive.proofs.Likeness.{Spoken, like_follows}
 use Rattle.drive.proofs.Arms as Arms
 use Rattle.drive.proofs.Arms.{Flags, with_task, Settles, Seen, Paused, AtOnce, control_like, poll_like, pause_like}
@@ -63,30 +63,30 @@ spoken : (X : Type 0) (p : List Event) → (list_any is_launch (journal p) ≡ t
 spoken X [] k = tt
 spoken X ((c, a) ∷ p) k = ((λ e. k (grind (arith, common_steps, e))), spoken X p (λ e. k (grind (arith, common_steps, e))))
 
-module _ {W : Type 0} (did : W → (c : Call) → Reply c → W → Type 0) (am : Amended) (now : ℕ) (v : JobView) (free : v.closed ≡ false) (granted : Granted v.task) (order : InOrder [] v.mailbox) where
+module _ {W : Type 0} (did : W → (c : Call) → Reply c → W → Type 0) (am : Amendments) (now : ℕ) (v : JobView) (free : v.closed ≡ false) (granted : GrantMeansRunning v.task) (order : IsInOrder [] v.mailbox) where
   -- what the original comes to, given the answers of a step's trace
-  abbrev Comes : Interaction Original.Original → List Event → Stepping → Type 0
-  Comes u p s = (o' : Original.Original) × Follows u (heard p) o' × Agrees s.view o'
+  abbrev Comes : Interaction Original.Original → List Event → StepEnd → Type 0
+  Comes u p s = (o' : Original.Original) × Follows u (heard_calls p) o' × Agrees s.view o'
 
   -- the flags are closed exactly as the job is
   settled_gone : (ticket : ℕ) (o : Outcome) (g : Flags) → g.gone ≡ false → (Arms.settled now ticket o g).gone ≡ closes o
   settled_gone ticket o g e = grind (arith, common_steps, e)
 
   -- a control that has had this outcome
-  settles_agree : (r : Message.Received) (n : MailboxView) → Mail.take now v.mailbox ≡ Some (r, n) → (g : Flags) → Flagged n g → g.gone ≡ false → (x : TaskView × Outcome) → Timed r.message.control x.1 → (o' : Original.Original) → Settles now r.message.ticket g x o' → Agrees (carried now r n x).view o'
+  settles_agree : (r : Message.Received) (n : MailboxView) → Mail.take now v.mailbox ≡ Some (r, n) → (g : Flags) → Flagged n g → g.gone ≡ false → (x : TaskView × Outcome) → MaySetTimer r.message.control x.1 → (o' : Original.Original) → Settles now r.message.ticket g x o' → Agrees (control_end now r n x).view o'
   settles_agree r n e g k d x timed o' z =
       let hand = take_in now v.mailbox r n order e in
       let flags = settle_flagged now x.1 r.message.ticket n g hand.order (λ i. hand.free (timed i)) k in
-      rw z (agree (carried now r n x).view (Arms.settled now r.message.ticket x.1 g) flags (settled_gone r.message.ticket x.1 g d))
+      rw z (agree (control_end now r n x).view (Arms.settled now r.message.ticket x.1 g) flags (settled_gone r.message.ticket x.1 g d))
 
-  control_comes : (r : Message.Received) (n : MailboxView) → Mail.take now v.mailbox ≡ Some (r, n) → (g : Flags) → Flagged n g → g.gone ≡ false → (w w' : W) (p : List Event) (s : Stepping) → Apart am Kinds.Control now v (journal p) → Traces did (bind (Tree.control r.message.control now v.task) (λ x. done (carried now r n x))) w p s w' → Comes (Original.arm am r.message.control now r.message.ticket (with_task v.task g)) p s
+  control_comes : (r : Message.Received) (n : MailboxView) → Mail.take now v.mailbox ≡ Some (r, n) → (g : Flags) → Flagged n g → g.gone ≡ false → (w w' : W) (p : List Event) (s : StepEnd) → IsApart am Kinds.Control now v (journal p) → Traces did (bind (Tree.control r.message.control now v.task) (λ x. done (control_end now r n x))) w p s w' → Comes (Original.arm am r.message.control now r.message.ticket (with_task v.task g)) p s
   control_comes r n e g k d w w' p s apart run =
       let c = r.message.control in
-      let x = traces_made did (Tree.control c now v.task) (carried now r n) w w' p s run in
+      let x = traces_made did (Tree.control c now v.task) (control_end now r n) w w' p s run in
       let ends = control_traced did v.task granted c now w w' p x.0 x.1 _ _ (fitting v.task) in
       let like = control_like am v.task.foreground.pauses (Speaks Waits) (λ program options way time child h. h refl) now r.message.ticket c v.task g (at_once c v.task.state (λ i j. apart.pending refl r n e i j)) refl in
       let y = like_follows (Speaks Waits) did (Settles now r.message.ticket g) (Tree.control c now v.task) (Original.arm am c now r.message.ticket (with_task v.task g)) w w' p x.0 like x.1 (spoken Waits p apart.waiting) in
-      (y.0, y.1, subst (λ (z : Stepping). Agrees z.view y.0) (sym x.2) (settles_agree r n e g k d x.0 ends.4 y.0 y.2))
+      (y.0, y.1, subst (λ (z : StepEnd). Agrees z.view y.0) (sym x.2) (settles_agree r n e g k d x.0 ends.4 y.0 y.2))
     where
       Waits : Type 0
       Waits = (if am.drops then [] else v.task.foreground.pauses) ≡ []
@@ -96,7 +96,7 @@ module _ {W : Type 0} (did : W → (c : Call) → Reply c → W → Type 0) (am 
       at_once c state k = tt
 
   -- a turn of the loop
-  pub branch_comes : (kind : StepKind) (own : ℕ) (o : Original.Original) → Agrees v o → (w w' : W) (p : List Event) (s : Stepping) → Apart am kind now v (journal p) → Traces did (tree_of kind own now v) w p s w' → Comes (Original.branch am kind own now o) p s
+  pub branch_comes : (kind : StepKind) (own : ℕ) (o : Original.Original) → Agrees v o → (w w' : W) (p : List Event) (s : StepEnd) → IsApart am kind now v (journal p) → Traces did (tree_of kind own now v) w p s w' → Comes (Original.branch am kind own now o) p s
   branch_comes kind own o a w w' p s apart run = rw (same_task v o a) (by kind apart run)
     where
       f : Flags
@@ -111,24 +111,24 @@ module _ {W : Type 0} (did : W → (c : Call) → Reply c → W → Type 0) (am 
       Waits : Type 0
       Waits = (if am.drops then [] else v.task.foreground.pauses) ≡ []
 
-      controls : Apart am Kinds.Control now v (journal p) → (k : Taken) → Mail.take now v.mailbox ≡ k → Received v.task (flags_of o) k (Original.recv am now (with_task v.task (flags_of o))) → Traces did (carry_out k now v) w p s w' → Comes (Original.control_branch am now (Original.recv am now (with_task v.task (flags_of o))) (with_task v.task (flags_of o))) p s
+      controls : IsApart am Kinds.Control now v (journal p) → (k : TakeResult) → Mail.take now v.mailbox ≡ k → Received v.task (flags_of o) k (Original.recv am now (with_task v.task (flags_of o))) → Traces did (carry_out k now v) w p s w' → Comes (Original.control_branch am now (Original.recv am now (with_task v.task (flags_of o))) (with_task v.task (flags_of o))) p s
       controls apart None e r run = rw (r, run.0, run.1) (with_task v.task (flags_of o), (refl, refl, refl), agree (record v { clock = now }) (flags_of o) h a.closed)
       controls apart (Some (x, n)) e r run = rw r.1 (control_comes x n e r.0 r.2 (r.3 ∙ gone) w w' p s apart run)
 
       seen_gone : (x : PollOutcome) (g : Flags) → (Arms.seen x g).gone ≡ g.gone
       seen_gone x g = grind (arith, common_steps)
 
-      children : Apart am Kinds.Child now v (journal p) → Traces did (bind (Tree.poll_child (is_some o.on_end_restart) now v.task) (λ x. done (watched now v x))) w p s w' → Comes (Original.wait_branch am v.task.state now (with_task v.task (flags_of o))) p s
+      children : IsApart am Kinds.Child now v (journal p) → Traces did (bind (Tree.poll_child (is_some o.on_end_restart) now v.task) (λ x. done (poll_end now v x))) w p s w' → Comes (Original.wait_branch am v.task.state now (with_task v.task (flags_of o))) p s
       children apart run =
-          let x = traces_made did (Tree.poll_child (is_some o.on_end_restart) now v.task) (watched now v) w w' p s run in
+          let x = traces_made did (Tree.poll_child (is_some o.on_end_restart) now v.task) (poll_end now v) w w' p s run in
           let like = poll_like am v.task.foreground.pauses (Speaks Waits) (λ program options way time child k. k refl) now 0 v.task (flags_of o) refl in
           let y = like_follows (Speaks Waits) did (Seen (flags_of o)) (Tree.poll_child (is_some o.on_end_restart) now v.task) (Original.wait_branch am v.task.state now (with_task v.task (flags_of o))) w w' p x.0 like x.1 (spoken Waits p apart.waiting) in
-          (y.0, y.1, subst (λ (z : Stepping). Agrees z.view y.0) (sym x.2) (rw y.2 (agree (watched now v x.0).view (Arms.seen x.0.1 (flags_of o)) (after_poll_flagged x.0.1 v.mailbox (flags_of o) order h) (seen_gone x.0.1 (flags_of o) ∙ a.closed))))
+          (y.0, y.1, subst (λ (z : StepEnd). Agrees z.view y.0) (sym x.2) (rw y.2 (agree (poll_end now v x.0).view (Arms.seen x.0.1 (flags_of o)) (after_poll_flagged x.0.1 v.mailbox (flags_of o) order h) (seen_gone x.0.1 (flags_of o) ∙ a.closed))))
 
-      by : (kind : StepKind) → Apart am kind now v (journal p) → Traces did (tree_of kind own now v) w p s w' → Comes (Original.branch am kind own now (with_task v.task (flags_of o))) p s
+      by : (kind : StepKind) → IsApart am kind now v (journal p) → Traces did (tree_of kind own now v) w p s w' → Comes (Original.branch am kind own now (with_task v.task (flags_of o))) p s
       by Kinds.Control apart run = controls apart (Mail.take now v.mailbox) refl (recv_flagged v.task v.mailbox (flags_of o) h am now (apart.outlasted refl)) run
-      by Kinds.Child apart run = children apart (subst (λ (restart : Bool). Traces did (bind (Tree.poll_child restart now v.task) (λ x. done (watched now v x))) w p s w') (sym (ap is_some a.memory)) run)
+      by Kinds.Child apart run = children apart (subst (λ (restart : Bool). Traces did (bind (Tree.poll_child restart now v.task) (λ x. done (poll_end now v x))) w p s w') (sym (ap is_some a.memory)) run)
       by Kinds.Pause apart run =
-          let x = traces_made did (Tree.pause own v.task) (pause_taken now v) w w' p s run in
+          let x = traces_made did (Tree.pause own v.task) (pause_end now v) w w' p s run in
           let y = like_follows (Speaks ⊤) did (Paused (flags_of o)) (Tree.pause own v.task) (Original.pause_branch v.task.state v.task.foreground.pauses own (with_task v.task (flags_of o))) w w' p x.0 (pause_like (Speaks ⊤) own v.task (flags_of o)) x.1 (spoken ⊤ p (λ _. tt)) in
-          (y.0, y.1, subst (λ (z : Stepping). Agrees z.view y.0) (sym x.2) (rw y.2 (agree (pause_taken now v x.0).view (flags_of o) h a.closed)))
+          (y.0, y.1, subst (λ (z : StepEnd). Agrees z.view y.0) (sym x.2) (rw y.2 (agree (pause_end now v x.0).view (flags_of o) h a.closed)))

@@ -8,7 +8,7 @@ use Rattle.host.specs.Journal.{journal}
 use Rattle.host.specs.Books.{spawns_in}
 use Rattle.supervisor.specs.declared.answers.Stepped.{Stepped}
 use Rattle.supervisor.specs.declared.errors.Refusal.{Refusal}
-use Rattle.supervisor.specs.Job.{JobView, Stepping, tree_of}
+use Rattle.supervisor.specs.Job.{JobView, StepEnd, tree_of}
 use Rattle.supervisor.specs.Steps.{Moment, Steps}
 use Rattle.task.proofs.Sheets.{journal-length}
 use Rattle.drive.specs.declared.calls.Call.{Call}
@@ -18,7 +18,7 @@ use Rattle.drive.specs.Answers.{spawn_records, step_done}
 use Rattle.drive.specs.Calls.{Makes}
 use Rattle.drive.proofs.Counts.{journal-spawns, along_spawns}
 
-module _ {H T : Type 0} (by_host : Host.Ghosts H) (by_terminal : Terminal.Ghosts T) (tree : ℕ → JobView → Interaction Stepping) (time : ℕ) (a b : Moment H T) where
+module _ {H T : Type 0} (by_host : Host.Ghosts H) (by_terminal : Terminal.Ghosts T) (tree : ℕ → JobView → Interaction StepEnd) (time : ℕ) (a b : Moment H T) where
   -- the starts that a step tried are the spawns of its trace
   pub tried-spawns : (s : Stepped) (h : Steps by_host by_terminal tree time a (Ok s) b) → spawn_records (take s.records b.sheet) ≡ spawns_in h.1.conducts.trace
   tried-spawns s h =

@@ -13,14 +13,14 @@ use Rattle.drive.specs.declared.calls.Done.{Done}
 abbrev pub spawn_records : List Record → ℕ
 spawn_records rs = count_by (λ r. is_spawn r.call) rs
 
-abbrev pub done : Result ℕ Refusal → ℕ → ℕ → ℕ → Done
-done answer records tried ordered = record { answer = answer; records = records; tally = record { tried = tried; ordered = ordered } }
+abbrev pub done_with : Result ℕ Refusal → ℕ → ℕ → ℕ → Done
+done_with answer records tried ordered = record { answer = answer; records = records; tally = record { tried = tried; ordered = ordered } }
 
 -- no records were written, and nothing counts
-abbrev pub only_answered : Result ℕ Refusal → Done
-only_answered answer = done answer 0 0 0
+abbrev pub done_without : Result ℕ Refusal → Done
+done_without answer = done_with answer 0 0 0
 
 -- what a step did, by its answer and the sheet after it
 abbrev pub step_done : Result Stepped Refusal → List Record → Done
-step_done (Ok s) sheet = done (Ok (progress_number s.progress)) s.records (spawn_records (take s.records sheet)) (from_bool s.ordered)
-step_done (Err r) sheet = only_answered (Err r)
+step_done (Ok s) sheet = done_with (Ok (progress_number s.progress)) s.records (spawn_records (take s.records sheet)) (from_bool s.ordered)
+step_done (Err r) sheet = done_without (Err r)

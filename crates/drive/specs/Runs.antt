@@ -8,11 +8,11 @@ use Rattle.supervisor.specs.Steps.{Moment}
 use Rattle.drive.specs.declared.calls.Call.{Call}
 use Rattle.drive.specs.declared.calls.Tally.{Tally}
 use Rattle.drive.specs.Calls.{Makes}
-use Rattle.drive.specs.Cases.{Cases}
+use Rattle.drive.specs.Cases.{MeetsCases}
 use Rattle.drive.specs.Turns.{Turn, Linked, answers_of, tried_in, ordered_in}
-use Rattle.drive.specs.Laws.{Laws}
-use Rattle.drive.specs.Restarts.{Restarts}
-use Rattle.drive.specs.Follows.{Originals}
+use Rattle.drive.specs.Laws.{KeepsLaws}
+use Rattle.drive.specs.Restarts.{KeepsRestartLaws}
+use Rattle.drive.specs.Follows.{MatchesOriginal}
 
 -- The calls were made one after the other from the moment a to the moment b: their answers stand in order at the front of the
 -- slice of answers, which behind them is what it was; the tally adds up what they did; the host's count of spawns grew by exactly
@@ -24,10 +24,10 @@ pub record Completes {H T : Type 0} (by_host : Host.Ghosts H) (by_terminal : Ter
   pub answers : ys ≡ answers_of turns ++ drop (length calls) xs
   pub tried : tally.tried ≡ tried_in turns
   pub ordered : tally.ordered ≡ ordered_in turns
-  pub laws : Laws by_host by_terminal calls a turns b
-  pub restarts : Restarts calls a turns
-  pub originals : Originals by_host by_terminal calls a turns b
-  pub cases : Cases by_host by_terminal
+  pub laws : KeepsLaws by_host by_terminal calls a turns b
+  pub restarts : KeepsRestartLaws calls a turns
+  pub originals : MatchesOriginal by_host by_terminal calls a turns b
+  pub cases : MeetsCases by_host by_terminal
   pub spawned : (by_host.book b.host).spawns % 2 ^ 64 ≡ ((by_host.book a.host).spawns + tally.tried) % 2 ^ 64
 
 -- a run is refused, and changes nothing, where there are fewer answers than calls

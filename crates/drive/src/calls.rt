@@ -1,6 +1,6 @@
 // The calls that a run is made of, and what each of them did.
 ghost use Rattle.std.specs.Prelude.{◌≡◌};
-ghost use Rattle.drive.specs.Answers.{only_answered};
+ghost use Rattle.drive.specs.Answers.{done_without};
 
 use supervisor::answers::StepKind;
 use supervisor::errors::Refusal;
@@ -34,7 +34,7 @@ pub struct Done {
 
 // What is done by a call that makes no step, or by a step that is refused: its answer is all.
 impl From<Result<u32, Refusal>> for Done {
-    ghost from_gives = { λ answer it. it ≡ only_answered answer };
+    ghost from_gives = { λ answer it. it ≡ done_without answer };
 
     fn from(answer: Result<u32, Refusal>) -> Done {
         Done {

@@ -47,26 +47,26 @@ fn stepped(answer: Result<Stepped, Refusal>, sheet: &[Record]) -> Done
 
 // No ticket and no child has a number of more than 32 bits.
 pub fn known(number: u64) -> Result<u32, Refusal>
-    ensures { result ≡ Calls.known number }
+    ensures { result ≡ Calls.known_ticket number }
 {
     u32::try_from(number).map_err(|_| Refusal::Unknown)
 }
 
 fn pause(job: &mut Job, signal: u8) -> Result<u32, Refusal>
-    ensures { Steps.Answers (Calls.paused signal) job.old result job.new }
+    ensures { Steps.Answers (Calls.pause_value signal) job.old result job.new }
 {
     job.pause(signal)?;
     Ok(0)
 }
 
 fn look(job: &Job, ticket: u64) -> Result<u32, Refusal>
-    ensures { result ≡ Calls.looked (Calls.known ticket) (job_view job.now) }
+    ensures { result ≡ Calls.look_value (Calls.known_ticket ticket) (job_view job.now) }
 {
     Ok(u32::from(job.look(known(ticket)?)?))
 }
 
 fn collect(job: &mut Job, ticket: u64) -> Result<u32, Refusal>
-    ensures { Steps.Answers (Calls.collected (Calls.known ticket)) job.old result job.new }
+    ensures { Steps.Answers (Calls.collect_value (Calls.known_ticket ticket)) job.old result job.new }
 {
     job.collect(known(ticket)?)?;
     Ok(0)

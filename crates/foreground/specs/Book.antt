@@ -4,10 +4,10 @@ use Rattle.std.proofs.Common.{arith}
 use Rattle.host.specs.Calls.{TerminalCall, owner, acquire, release}
 use Rattle.host.specs.Books.{TerminalKeeps}
 use Rattle.foreground.specs.declared.absent.AbsentTerminal.{AbsentTerminal}
-use Rattle.foreground.specs.Absent.{answer, book_of, counted}
+use Rattle.foreground.specs.Absent.{answer, book_of, count_call}
 
 -- what is answered and counted keeps the rules of the book
-pub answered : (t : AbsentTerminal) (c : TerminalCall) → TerminalKeeps (book_of t) c (answer c) (counted (book_of t))
-answered t owner = record { moved = refl; fits = omega arith }
-answered t (acquire group) = record { moved = refl; fits = ((omega arith, omega arith), λ h. omega arith) }
-answered t release = record { moved = refl; fits = tt }
+pub keeps_book : (t : AbsentTerminal) (c : TerminalCall) → TerminalKeeps (book_of t) c (answer c) (count_call (book_of t))
+keeps_book t owner = record { moved = refl; fits = omega arith }
+keeps_book t (acquire group) = record { moved = refl; fits = ((omega arith, omega arith), λ h. omega arith) }
+keeps_book t release = record { moved = refl; fits = tt }

@@ -50,5 +50,5 @@ abbrev pub tcsetattr : ℕ → Tty → Result ⊤ Fault × Tty
 tcsetattr settings t = if is_stopped t then (Err (fault 4), t) else (Ok tt, record t { settings = settings })
 
 -- signal 18 (SIGCONT) is sent to a group, which continues it; ESRCH, 3, where the group has no process
-abbrev pub continued : ℕ → List (Option Member) → Result ⊤ Fault
-continued group groups = if has_process group groups then Ok tt else Err (fault 3)
+abbrev pub continue_group : ℕ → List (Option Member) → Result ⊤ Fault
+continue_group group groups = if has_process group groups then Ok tt else Err (fault 3)

@@ -8,30 +8,30 @@ use Rattle.host.specs.Books.{TerminalKeeps, TerminalFits, IsTerminal, terminal_a
 use Rattle.foreground.specs.declared.group.Group.{Group}
 use Rattle.foreground.specs.declared.simulated.SimulatedTerminal.{SimulatedTerminal}
 use Rattle.foreground.specs.View.{number}
-use Rattle.foreground.specs.Simulated.{Sim, Did, book_of, counted, done, grants, view}
+use Rattle.foreground.specs.Simulated.{TerminalView, Did, book_of, count_call, serve, grants, view}
 
 fits_owner : (n : ℕ) (foreground : Option Group) → TerminalFits n owner (option_map number foreground)
 fits_owner n None = tt
 fits_owner n (Some group) = (group.low, group.high)
 
-moved_acquire : (s : Sim) (group : ℕ) → let d = done (counted s) (acquire group) in book_of d.1 ≡ terminal_after (book_of s) (acquire group) d.0
+moved_acquire : (s : TerminalView) (group : ℕ) → let d = serve (count_call s) (acquire group) in book_of d.1 ≡ terminal_after (book_of s) (acquire group) d.0
 moved_acquire s group = grind (arith, nat_tests)
 
-fits_acquire : (s : Sim) (group : ℕ) → let d = done (counted s) (acquire group) in TerminalFits (book_of s).grants (acquire group) d.0
+fits_acquire : (s : TerminalView) (group : ℕ) → let d = serve (count_call s) (acquire group) in TerminalFits (book_of s).grants (acquire group) d.0
 fits_acquire s group = grind (arith, nat_tests)
 
-moved_release : (s : Sim) → book_of (done (counted s) release).1 ≡ terminal_after (book_of s) release tt
+moved_release : (s : TerminalView) → book_of (serve (count_call s) release).1 ≡ terminal_after (book_of s) release tt
 moved_release s = grind (arith, nat_tests)
 
 -- what each call is answered and leaves keeps the rules of the book
-keeps : (t : SimulatedTerminal) (c : TerminalCall) → let d = done (counted (view t)) c in TerminalKeeps (book_of (view t)) c d.0 (book_of d.1)
+keeps : (t : SimulatedTerminal) (c : TerminalCall) → let d = serve (count_call (view t)) c in TerminalKeeps (book_of (view t)) c d.0 (book_of d.1)
 keeps t owner = record { moved = refl; fits = fits_owner (book_of (view t)).grants t.console.device.foreground }
 keeps t (acquire group) = record { moved = moved_acquire (view t) group; fits = fits_acquire (view t) group }
 keeps t release = record { moved = moved_release (view t); fits = tt }
 
 pub keeps_so : (t : SimulatedTerminal) (c : TerminalCall) (a : TerminalReply c) (u : SimulatedTerminal) → Did t c a u → TerminalKeeps (book_of (view t)) c a (book_of (view u))
 keeps_so t c a u did =
-    let Keeps : TerminalReply c × Sim → Type 0 = λ d. TerminalKeeps (book_of (view t)) c d.0 (book_of d.1) in
+    let Keeps : TerminalReply c × TerminalView → Type 0 = λ d. TerminalKeeps (book_of (view t)) c d.0 (book_of d.1) in
     subst Keeps (sym did) (keeps t c)
 
 few_grants : (saved : Option ℕ) → grants saved ≤ 1

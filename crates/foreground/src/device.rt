@@ -69,7 +69,7 @@ impl Device {
 
     // Sends signal 18 to a group (`killpg` with SIGCONT).
     pub(crate) fn continue_group(&self, group: Group) -> Result<(), Fault>
-        ensures { result ≡ Posix.continued group.number self.now.session.places }
+        ensures { result ≡ Posix.continue_group group.number self.now.session.places }
     {
         if !self.session.has_process(group) {
             return Err(NO_PROCESS);

@@ -5,7 +5,7 @@ ghost use Rattle.host.specs.Fault.{fault};
 ghost use Rattle.std.specs.Option.{option_map};
 ghost use Rattle.foreground.specs.Session.{in_session};
 ghost use Rattle.foreground.specs.View.{number};
-ghost use Rattle.foreground.specs.Simulated.{Did, book_of, counted, fresh, view};
+ghost use Rattle.foreground.specs.Simulated.{Did, book_of, count_call, fresh_terminal, view};
 ghost use Rattle.foreground.specs.SimulatedBook;
 
 use crate::console::Console;
@@ -31,7 +31,7 @@ pub struct SimulatedTerminal {
 impl SimulatedTerminal {
     // The terminal of a supervisor whose process is in this group.
     pub fn new(own: Group) -> Self
-        ensures { view result ≡ fresh own.number }
+        ensures { view result ≡ fresh_terminal own.number }
     {
         SimulatedTerminal {
             console: Console {
@@ -110,7 +110,7 @@ impl Terminal for SimulatedTerminal {
         ensures same_handling { (view self.new).tty.handling ≡ (view self.old).tty.handling }
         ensures same_settings { (view self.new).tty.settings ≡ (view self.old).tty.settings }
         ensures never_stopped { result ≢ Err (fault 4) }
-        ensures outside { result ≡ Err (fault 1) → view self.new ≡ counted (view self.old) }
+        ensures outside { result ≡ Err (fault 1) → view self.new ≡ count_call (view self.old) }
         ensures empty { let t = (view self.old).tty in result ≡ Err (fault 3) → in_session t.own t.groups ≡ true → (view self.new).tty.foreground ≡ Some t.own }
     {
         self.served += 1;

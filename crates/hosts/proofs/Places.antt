@@ -4,13 +4,13 @@ use Rattle.std.proofs.lemmas.Bool.Decides.{nat_tests}
 use Rattle.std.specs.List.{remove, position_or_len}
 use Rattle.hosts.specs.declared.children.Life.{Life}
 use Rattle.hosts.specs.declared.children.Child.{Child}
-use Rattle.hosts.specs.Children.{child, life_of, without, with_life}
+use Rattle.hosts.specs.Children.{child, life_of, children_without, with_life}
 
 -- the first place of a child with the number n; past the end where there is none
 abbrev pub place : ℕ → List Child → ℕ
 place n cs = position_or_len (λ c. n == c.number) cs
 
-pub without-remove : (n : ℕ) (cs : List Child) → without n cs ≡ remove cs (place n cs)
+pub without-remove : (n : ℕ) (cs : List Child) → children_without n cs ≡ remove cs (place n cs)
 without-remove n [] = refl
 without-remove n (c ∷ cs) =
     let step : remove (c ∷ cs) (1 + place n cs) ≡ c ∷ remove cs (place n cs) = rw one-add refl in

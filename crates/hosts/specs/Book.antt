@@ -8,24 +8,24 @@ use Rattle.host.specs.Fault.{fault}
 use Rattle.host.specs.declared.fault.Fault.{Fault}
 use Rattle.host.specs.declared.command.SpawnOptions.{SpawnOptions}
 use Rattle.host.specs.Calls.{HostCall, spawn, poll, wait, kill, signal, cont, let_go, hook, routine, tell, HostReply}
-use Rattle.host.specs.Books.{HostFits, HostKeeps, IsEnd, IsFault, MayFault, next_count, on_roster, roster_after, spawns_after, strike}
+use Rattle.host.specs.Books.{HostFits, HostKeeps, IsEnd, IsFault, MayFault, next_count, is_on_roster, roster_after, spawns_after, strike}
 use Rattle.hosts.specs.declared.children.End.{End}
 use Rattle.hosts.specs.declared.children.End.TheVariants.{Exited, Signalled}
 use Rattle.hosts.specs.declared.children.Life.{Life}
 use Rattle.hosts.specs.declared.children.Life.TheVariants.{Going, Ended}
 use Rattle.hosts.specs.declared.children.Child.{Child}
-use Rattle.hosts.specs.Children.{child, numbers, life_of, without, with_life, reported, has_room, AreFit, AreNumbered, is_fit, process_end}
-use Rattle.hosts.specs.Signals.{delivered}
-use Rattle.hosts.specs.Simulated.{Sim, book_of, answer, after, children_after, poll_answer, wait_answer, signal_answer, signalled}
+use Rattle.hosts.specs.Children.{child, numbers, life_of, children_without, with_life, after_report, has_room, AreFit, AreNumbered, is_fit, process_end}
+use Rattle.hosts.specs.Signals.{deliver}
+use Rattle.hosts.specs.Simulated.{HostView, book_of, answer, state_after, children_after, poll_answer, wait_answer, signal_answer, send_signal}
 
 -- THE ROSTER OF A LIST OF CHILDREN
 
 -- who has a life is on the roster
-on_is_some : (n : ℕ) (cs : List Child) → on_roster n (numbers cs) ≡ is_some (life_of n cs)
+on_is_some : (n : ℕ) (cs : List Child) → is_on_roster n (numbers cs) ≡ is_some (life_of n cs)
 on_is_some n [] = refl
 on_is_some n (c ∷ cs) = grind (arith, on_is_some n cs)
 
-numbers-without : (n : ℕ) (cs : List Child) → numbers (without n cs) ≡ strike n (numbers cs)
+numbers-without : (n : ℕ) (cs : List Child) → numbers (children_without n cs) ≡ strike n (numbers cs)
 numbers-without n [] = refl
 numbers-without n (c ∷ cs) = grind (arith, numbers-without n cs)
 
@@ -34,7 +34,7 @@ numbers-with_life n life [] = refl
 numbers-with_life n life (c ∷ cs) = grind (arith, nat_tests, numbers-with_life n life cs)
 
 -- the next number is off the roster
-next_is_off : (next : ℕ) (cs : List Child) → AreNumbered next cs → on_roster next (numbers cs) ≡ false
+next_is_off : (next : ℕ) (cs : List Child) → AreNumbered next cs → is_on_roster next (numbers cs) ≡ false
 next_is_off next [] h = refl
 next_is_off next (c ∷ cs) h =
     let below : c.number < next = h 0 c (omega arith) in
@@ -58,7 +58,7 @@ bounded cs few = simp length-map few
 
 -- THE RULES
 
-module _ (s : Sim) (begun : 100 ≤ s.next) (numbered : AreNumbered s.next s.children) (fit : AreFit s.children) where
+module _ (s : HostView) (begun : 100 ≤ s.next) (numbered : AreNumbered s.next s.children) (fit : AreFit s.children) where
   -- its children, and their numbers
   abbrev cs : List Child
   cs = s.children
@@ -71,7 +71,7 @@ module _ (s : Sim) (begun : 100 ≤ s.next) (numbered : AreNumbered s.next s.chi
   Rules c a after-it = (numbers after-it ≡ roster_after roster c a) × HostFits 16 roster c a
 
   -- who has a life is on the roster
-  on : (n : ℕ) (life : Life) → life_of n cs ≡ Some life → on_roster n roster ≡ true
+  on : (n : ℕ) (life : Life) → life_of n cs ≡ Some life → is_on_roster n roster ≡ true
   on n life e = on_is_some n cs ∙ ap is_some e
 
   -- off the roster, the fault is 10
@@ -83,7 +83,7 @@ module _ (s : Sim) (begun : 100 ≤ s.next) (numbered : AreNumbered s.next s.chi
   on_faults n code life e h = (h, λ o. cc (on n life e))
 
   -- who has ended is on the roster, and ended as a process may
-  ended : (n : ℕ) (end : End) → life_of n cs ≡ Some (Ended end) → (on_roster n roster ≡ true) × IsEnd (process_end end)
+  ended : (n : ℕ) (end : End) → life_of n cs ≡ Some (Ended end) → (is_on_roster n roster ≡ true) × IsEnd (process_end end)
   ended n end e = (on n (Ended end) e, end_fits end (ends n cs end fit e))
 
   spawned : (program : ℕ) (options : SpawnOptions) (way time : ℕ) (b : Bool) → has_room s.next cs ≡ b → Rules (spawn program options way time) (if b then Ok s.next else Err (fault 11)) (if b then cs ++ child s.next Going ∷ [] else cs)
@@ -92,24 +92,24 @@ module _ (s : Sim) (begun : 100 ≤ s.next) (numbered : AreNumbered s.next s.chi
       (map-append _ cs (child s.next Going ∷ []), (next_is_off s.next cs numbered, omega arith, room.1, omega (arith, room.0, length-map cs (λ c. c.number))))
   spawned program options way time false e = (refl, ((omega arith, omega arith), λ _. refl))
 
-  polled : (n : ℕ) (o : Option Life) → life_of n cs ≡ o → Rules (poll n) (poll_answer o) (reported n o cs)
+  polled : (n : ℕ) (o : Option Life) → life_of n cs ≡ o → Rules (poll n) (poll_answer o) (after_report n o cs)
   polled n None e = (refl, off n)
   polled n (Some (Ended end)) e = (numbers-without n cs, ended n end e)
   polled n (Some life) e = (refl, on n life e)
 
-  waited : (n : ℕ) (o : Option Life) → life_of n cs ≡ o → Rules (wait n) (wait_answer o) (reported n o cs)
+  waited : (n : ℕ) (o : Option Life) → life_of n cs ≡ o → Rules (wait n) (wait_answer o) (after_report n o cs)
   waited n None e = (refl, off n)
   waited n (Some (Ended end)) e = (numbers-without n cs, ended n end e)
   waited n (Some life) e = (refl, on_faults n 4 life e (omega arith, omega arith))
 
   -- what holds of a fit fault, and of Ok where the child is on the roster, holds of the answer to a signal
-  sent : (P : Result ⊤ Fault → Type 0) → (n number : ℕ) (o : Option Life) → life_of n cs ≡ o → ((f : Fault) → MayFault n roster f → P (Err f)) → (on_roster n roster ≡ true → P (Ok tt)) → P (signal_answer number o)
+  sent : (P : Result ⊤ Fault → Type 0) → (n number : ℕ) (o : Option Life) → life_of n cs ≡ o → ((f : Fault) → MayFault n roster f → P (Err f)) → (is_on_roster n roster ≡ true → P (Ok tt)) → P (signal_answer number o)
   sent P n number None e faults granted = faults (fault 10) (off n)
   sent P n number (Some life) e faults granted = cond_both (nat_le number 31) (Ok tt) (Err (fault 22)) P (λ _. granted (on n life e)) (λ _. faults (fault 22) (on_faults n 22 life e (omega arith, omega arith)))
 
-  same_roster : (n number : ℕ) (o : Option Life) → numbers (signalled s.mask number n o cs) ≡ roster
+  same_roster : (n number : ℕ) (o : Option Life) → numbers (send_signal s.mask number n o cs) ≡ roster
   same_roster n number None = refl
-  same_roster n number (Some life) = grind (arith, numbers-with_life n (delivered s.mask number life) cs)
+  same_roster n number (Some life) = grind (arith, numbers-with_life n (deliver s.mask number life) cs)
 
   rules : (c : HostCall) → Rules c (answer s c) (children_after s c)
   rules (spawn program options way time) = spawned program options way time _ refl
@@ -124,11 +124,11 @@ module _ (s : Sim) (begun : 100 ≤ s.next) (numbered : AreNumbered s.next s.chi
   rules (tell handler code) = (refl, tt)
 
   -- each call, answered and moved so, keeps the rules of the book
-  pub keeps : (c : HostCall) → HostKeeps 16 (book_of s) c (answer s c) (book_of (after s c))
+  pub keeps : (c : HostCall) → HostKeeps 16 (book_of s) c (answer s c) (book_of (state_after s c))
   keeps c =
       let r = rules c in
       record { moved = ap (λ (ns : List ℕ). record { roster = ns; served = next_count s.served; spawns = spawns_after s.spawns c }) r.0; fits = r.1 }
 
   -- said of the answer and of what the call left
-  pub keeps_so : (c : HostCall) (a : HostReply c) (t : Sim) → a ≡ answer s c → t ≡ after s c → HostKeeps 16 (book_of s) c a (book_of t)
+  pub keeps_so : (c : HostCall) (a : HostReply c) (t : HostView) → a ≡ answer s c → t ≡ state_after s c → HostKeeps 16 (book_of s) c a (book_of t)
   keeps_so c a t answered moved = rw (answered, moved) (keeps c)

@@ -24,8 +24,8 @@ abbrev pub life_of : ℕ → List Child → Option Life
 life_of n cs = option_map (λ c. c.life) (find (λ c. n == c.number) cs)
 
 -- the children without the child n
-abbrev pub without : ℕ → List Child → List Child
-without n cs = remove_key (λ c. n == c.number) cs
+abbrev pub children_without : ℕ → List Child → List Child
+children_without n cs = remove_key (λ c. n == c.number) cs
 
 -- the children once the child n has this life
 abbrev pub with_life : ℕ → Life → List Child → List Child
@@ -43,11 +43,11 @@ abbrev pub with_living : ℕ → Life → List Child → List Child
 with_living n life cs = if is_living (life_of n cs) then with_life n life cs else cs
 
 -- the children once the child n, which has this life, was asked for its end: one that ended leaves with its report
-abbrev pub reported : ℕ → Option Life → List Child → List Child
-reported n None cs = cs
-reported n (Some Going) cs = cs
-reported n (Some Stopped) cs = cs
-reported n (Some (Ended end)) cs = without n cs
+abbrev pub after_report : ℕ → Option Life → List Child → List Child
+after_report n None cs = cs
+after_report n (Some Going) cs = cs
+after_report n (Some Stopped) cs = cs
+after_report n (Some (Ended end)) cs = children_without n cs
 
 -- there are fewer than 16 children, and the next number is below 2^31
 abbrev pub has_room : ℕ → List Child → Bool

@@ -5,7 +5,7 @@ use Rattle.host.specs.Command.{options_of}
 use Rattle.host.specs.Fault.{fault}
 use Rattle.host.specs.declared.fault.Fault.{Fault}
 use Rattle.host.specs.Calls.{HostCall, spawn, poll, wait, kill, signal, cont, let_go, hook, routine, tell, HostReply}
-use Rattle.host.specs.Books.{HostBook, host_after, on_roster}
+use Rattle.host.specs.Books.{HostBook, host_after, is_on_roster}
 use Rattle.hosts.specs.declared.prepared.PreparedHost.{PreparedHost}
 use Rattle.hosts.specs.Numbers.{child_of, end_of, nothing_of, polled_of}
 
@@ -25,8 +25,8 @@ abbrev pub view : {A : Type 0} → (A → List ℤ) → PreparedHost A → Prepa
 view items h = record { answers = items h.answers; place = h.place; book = record { roster = roster_of h.child; served = h.served.0; spawns = h.spawns.0 } }
 
 -- a new one has taken no answer, and has no child
-abbrev pub fresh : List ℤ → Prepared
-fresh answers = record { answers = answers; place = 0; book = record { roster = []; served = 0; spawns = 0 } }
+abbrev pub fresh_host : List ℤ → Prepared
+fresh_host answers = record { answers = answers; place = 0; book = record { roster = []; served = 0; spawns = 0 } }
 
 -- ANSWERS
 
@@ -46,17 +46,17 @@ is_full roster = nat_le 1 (length roster)
 -- whether a call takes an answer of the sheet: not if the book gives its fault, and a let-go never
 abbrev pub takes : List ℕ → HostCall → Bool
 takes roster (spawn program options way time) = not (is_full roster)
-takes roster (poll n) = on_roster n roster
-takes roster (wait n) = on_roster n roster
-takes roster (kill n) = on_roster n roster
-takes roster (signal n number) = on_roster n roster
-takes roster (cont n) = on_roster n roster
+takes roster (poll n) = is_on_roster n roster
+takes roster (wait n) = is_on_roster n roster
+takes roster (kill n) = is_on_roster n roster
+takes roster (signal n number) = is_on_roster n roster
+takes roster (cont n) = is_on_roster n roster
 takes roster (let_go n) = false
 takes roster c = true
 
 -- the answer to a call that names the child n; where it is off the roster, it is a fault with 10
 abbrev pub answer_about : {A : Type 0} → ℕ → (ℕ → Option A) → Prepared → Result A Fault
-answer_about n said s = if on_roster n s.book.roster then next_answer said s else Err (fault 10)
+answer_about n said s = if is_on_roster n s.book.roster then next_answer said s else Err (fault 10)
 
 -- the answer of each call; a spawn while the roster is full faults with 11, and else its child is the only one
 abbrev pub answer : Prepared → (c : HostCall) → HostReply c
@@ -74,13 +74,13 @@ answer s (tell handler told) = next_answer nothing_of s
 -- WHAT A CALL LEAVES
 
 -- the next answer is taken, if one is left
-abbrev pub taken : Prepared → Prepared
-taken s = record s { place = if nat_lt s.place (length s.answers) then s.place + 1 else s.place }
+abbrev pub take_answer : Prepared → Prepared
+take_answer s = record s { place = if nat_lt s.place (length s.answers) then s.place + 1 else s.place }
 
 -- the next answer is taken if the call takes one, and the book moves as by each call and its answer
-abbrev pub after : Prepared → HostCall → Prepared
-after s c = record (if takes s.book.roster c then taken s else s) { book = host_after s.book c (answer s c) }
+abbrev pub state_after : Prepared → HostCall → Prepared
+state_after s c = record (if takes s.book.roster c then take_answer s else s) { book = host_after s.book c (answer s c) }
 
 -- a call of a host was answered so, and left the host so
 abbrev pub Did : {A : Type 0} → (A → List ℤ) → PreparedHost A → (c : HostCall) → HostReply c → PreparedHost A → Type 0
-Did items h c a k = (a ≡ answer (view items h) c) × (view items k ≡ after (view items h) c)
+Did items h c a k = (a ≡ answer (view items h) c) × (view items k ≡ state_after (view items h) c)

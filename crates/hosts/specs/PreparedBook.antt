@@ -9,10 +9,10 @@ use Rattle.host.specs.declared.command.SpawnOptions.{SpawnOptions}
 use Rattle.host.specs.declared.state.ProcessEnd.{ProcessEnd}
 use Rattle.host.specs.declared.state.ProcessEnd.TheVariants.{Exited, Signalled, Continued}
 use Rattle.host.specs.Calls.{HostCall, spawn, poll, wait, kill, signal, cont, let_go, hook, routine, tell, HostReply}
-use Rattle.host.specs.Books.{HostFits, HostKeeps, IsEnd, IsFault, MayFault, on_roster}
+use Rattle.host.specs.Books.{HostFits, HostKeeps, IsEnd, IsFault, MayFault, is_on_roster}
 use Rattle.host.specs.Command.{options_of}
 use Rattle.hosts.specs.Numbers.{child_of, end_of, nothing_of, polled_of}
-use Rattle.hosts.specs.Prepared.{Prepared, after, answer, is_full, next_answer, read, roster_of}
+use Rattle.hosts.specs.Prepared.{Prepared, state_after, answer, is_full, next_answer, read, roster_of}
 
 -- one child at most
 pub bounded : (child : Option ℕ) → length (roster_of child) ≤ 1
@@ -55,7 +55,7 @@ module _ {A : Type 0} (said : ℕ → Option A) (P : Result A Fault → Type 0) 
 -- THE RULES
 
 -- no child is on a roster that is not full
-none_is_on : (child : ℕ) (roster : List ℕ) → length roster < 1 → on_roster child roster ≡ false
+none_is_on : (child : ℕ) (roster : List ℕ) → length roster < 1 → is_on_roster child roster ≡ false
 none_is_on child [] h = refl
 none_is_on child (first ∷ rest) h = absurd (omega arith)
 
@@ -70,11 +70,11 @@ module _ (s : Prepared) where
       next_fits child_of (HostFits 1 roster (spawn program options way time)) (λ f h. (h, λ full. absurd (omega arith))) (λ n child e. (none_is_on child roster room, (child_fits n child e).0, (child_fits n child e).1, room)) s
 
   -- what holds of a fit fault, and of a value where the child is on the roster, holds of the answer about the child
-  about : {A : Type 0} (n : ℕ) (said : ℕ → Option A) (P : Result A Fault → Type 0) → ((f : Fault) → MayFault n roster f → P (Err f)) → (on_roster n roster ≡ true → (m : ℕ) (x : A) → said m ≡ Some x → P (Ok x)) → (b : Bool) → on_roster n roster ≡ b → P (if b then next_answer said s else Err (fault 10))
+  about : {A : Type 0} (n : ℕ) (said : ℕ → Option A) (P : Result A Fault → Type 0) → ((f : Fault) → MayFault n roster f → P (Err f)) → (is_on_roster n roster ≡ true → (m : ℕ) (x : A) → said m ≡ Some x → P (Ok x)) → (b : Bool) → is_on_roster n roster ≡ b → P (if b then next_answer said s else Err (fault 10))
   about n said P faults values true e = next_fits said P (λ f h. faults f (h, λ off. cc)) (values e) s
   about n said P faults values false e = faults (fault 10) ((omega arith, omega arith), λ _. refl)
 
-  polled : (n : ℕ) → on_roster n roster ≡ true → (m : ℕ) (o : Option ProcessEnd) → polled_of m ≡ Some o → HostFits 1 roster (poll n) (Ok o)
+  polled : (n : ℕ) → is_on_roster n roster ≡ true → (m : ℕ) (o : Option ProcessEnd) → polled_of m ≡ Some o → HostFits 1 roster (poll n) (Ok o)
   polled n on m None e = on
   polled n on m (Some end) e = (on, polled_fits m end e)
 
@@ -91,9 +91,9 @@ module _ (s : Prepared) where
   rules (tell handler told) = next_fits nothing_of (HostFits 1 roster (tell handler told)) (λ f h. h) (λ m u e. tt) s
 
   -- each call, answered and moved so, keeps the rules of the book
-  pub keeps : (c : HostCall) → HostKeeps 1 s.book c (answer s c) (after s c).book
+  pub keeps : (c : HostCall) → HostKeeps 1 s.book c (answer s c) (state_after s c).book
   keeps c = record { moved = refl; fits = rules c }
 
   -- said of the answer and of what the call left
-  pub keeps_so : (c : HostCall) (a : HostReply c) (t : Prepared) → a ≡ answer s c → t ≡ after s c → HostKeeps 1 s.book c a t.book
+  pub keeps_so : (c : HostCall) (a : HostReply c) (t : Prepared) → a ≡ answer s c → t ≡ state_after s c → HostKeeps 1 s.book c a t.book
   keeps_so c a t answered moved = rw (answered, moved) (keeps c)

@@ -8,5 +8,5 @@ abbrev pub items : Roster → List Child
 items r = r.children.items
 
 -- its children, and the number of the next one
-abbrev pub held : Roster → List Child × ℕ
-held r = (items r, r.next)
+abbrev pub contents_of : Roster → List Child × ℕ
+contents_of r = (items r, r.next)

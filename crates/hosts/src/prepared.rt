@@ -1,7 +1,7 @@
 // The host that answers from a sheet of prepared answers.
 ghost use Rattle.std.specs.Prelude.{◌≡◌, if◌then◌else◌};
-ghost use Rattle.host.specs.Books.{on_roster};
-ghost use Rattle.hosts.specs.Prepared.{Did, answer_about, fresh, next_answer, taken, view};
+ghost use Rattle.host.specs.Books.{is_on_roster};
+ghost use Rattle.hosts.specs.Prepared.{Did, answer_about, fresh_host, next_answer, take_answer, view};
 ghost use Rattle.hosts.specs.PreparedBook.{bounded, keeps_so};
 
 use crate::numbers::FromNumber;
@@ -25,7 +25,7 @@ pub struct PreparedHost<A> {
 
 impl<A: AsSlice<i64> + Drop> PreparedHost<A> {
     pub fn new(answers: A) -> Self
-        ensures { view A.items result ≡ fresh (A.items answers) }
+        ensures { view A.items result ≡ fresh_host (A.items answers) }
     {
         PreparedHost {
             answers,
@@ -46,7 +46,7 @@ impl<A: AsSlice<i64> + Drop> PreparedHost<A> {
     // Takes the next answer; one that doesn't fit is used up.
     fn take<T: FromNumber>(&mut self) -> Result<T, Fault>
         ensures answer { result ≡ next_answer T.said (view A.items self.old) }
-        ensures after { view A.items self.new ≡ taken (view A.items self.old) }
+        ensures after { view A.items self.new ≡ take_answer (view A.items self.old) }
     {
         let Some(&number) = self.answers.as_slice().get(self.place) else {
             return Err(Fault::NO_ANSWER);
@@ -64,7 +64,7 @@ impl<A: AsSlice<i64> + Drop> PreparedHost<A> {
     // Takes the answer to a call that names a child, which has to be on the roster.
     fn take_for<T: FromNumber>(&mut self, child: u32) -> Result<T, Fault>
         ensures answer { result ≡ answer_about child T.said (view A.items self.old) }
-        ensures after { let s = view A.items self.old in view A.items self.new ≡ (if on_roster child s.book.roster then taken s else s) }
+        ensures after { let s = view A.items self.old in view A.items self.new ≡ (if is_on_roster child s.book.roster then take_answer s else s) }
     {
         if self.child != Some(child) {
             return Err(Fault::NO_CHILD);

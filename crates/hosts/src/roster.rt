@@ -25,11 +25,11 @@ pub struct Roster {
 
 impl Roster {
     ghost use Rattle.std.specs.Prelude.{◌≡◌, ◌+◌, [], ◌∷◌, ◌++◌, ◌==◌, length, find, option_copied, position, if◌then◌else◌, Some, None, nat_le};
-    ghost use Rattle.hosts.specs.Children.{child, has_room, is_living, life_of, numbers, reported, with_life, with_living, without};
-    ghost use Rattle.hosts.specs.Roster.{held, items};
+    ghost use Rattle.hosts.specs.Children.{child, has_room, is_living, life_of, numbers, after_report, with_life, with_living, children_without};
+    ghost use Rattle.hosts.specs.Roster.{contents_of, items};
 
     pub(crate) fn new() -> Self
-        ensures { held result ≡ ([], 100) }
+        ensures { contents_of result ≡ ([], 100) }
     {
         Roster {
             children: ArrayVec::new(),
@@ -68,7 +68,7 @@ impl Roster {
     // Adds a going child with the next number; none where there is no room or no number left.
     pub(crate) fn add(&mut self) -> Option<u32>
         ensures answer { result ≡ (if has_room self.old.next (items self.old) then Some self.old.next else None) }
-        ensures after { held self.new ≡ (if has_room self.old.next (items self.old) then (items self.old ++ child self.old.next Life.Going ∷ [], self.old.next + 1) else held self.old) }
+        ensures after { contents_of self.new ≡ (if has_room self.old.next (items self.old) then (items self.old ++ child self.old.next Life.Going ∷ [], self.old.next + 1) else contents_of self.old) }
     {
         let number = self.next;
         if self.children.is_full() || number >= LIMIT {
@@ -84,7 +84,7 @@ impl Roster {
 
     // Gives a child a life; nothing changes where it is off the roster.
     pub(crate) fn put(&mut self, number: u32, life: Life)
-        ensures { held self.new ≡ (with_life number life (items self.old), self.old.next) }
+        ensures { contents_of self.new ≡ (with_life number life (items self.old), self.old.next) }
     {
         if let Some(at) = self.place(number) {
             self.children[at].life = life.known();
@@ -93,7 +93,7 @@ impl Roster {
 
     // Takes a child off; nothing changes where it is off already.
     pub(crate) fn strike(&mut self, number: u32)
-        ensures { held self.new ≡ (without number (items self.old), self.old.next) }
+        ensures { contents_of self.new ≡ (children_without number (items self.old), self.old.next) }
     {
         if let Some(at) = self.place(number) {
             self.children.remove(at);
@@ -103,7 +103,7 @@ impl Roster {
     // Gives a living child a life, and answers whether it was living; else nothing changes.
     pub(crate) fn put_living(&mut self, number: u32, life: Life) -> bool
         ensures answer { result ≡ is_living (life_of number (items self.old)) }
-        ensures after { held self.new ≡ (with_living number life (items self.old), self.old.next) }
+        ensures after { contents_of self.new ≡ (with_living number life (items self.old), self.old.next) }
     {
         let is_living = matches!(self.life(number), Some(Life::Going | Life::Stopped));
         if is_living {
@@ -115,7 +115,7 @@ impl Roster {
     // The life of a child; one that has ended is taken off, since its end is reported once.
     pub(crate) fn report(&mut self, number: u32) -> Option<Life>
         ensures life { result ≡ life_of number (items self.old) }
-        ensures after { held self.new ≡ (reported number result (items self.old), self.old.next) }
+        ensures after { contents_of self.new ≡ (after_report number result (items self.old), self.old.next) }
     {
         let life = self.life(number);
         if let Some(Life::Ended(_)) = life {

@@ -1,6 +1,6 @@
 // Signals, and what each does to a child of the simulated host.
 ghost use Rattle.std.specs.Prelude.{◌≡◌, ◌≤◌};
-ghost use Rattle.hosts.specs.Signals.{bit, delivered, ignored, signal_of};
+ghost use Rattle.hosts.specs.Signals.{has_bit, deliver, is_ignored, signal_of};
 
 use crate::children::{End, Life};
 use std::marker::Model;
@@ -83,13 +83,13 @@ impl Signal {
     }
 
     fn has_bit(self, mask: u32) -> bool
-        ensures { result ≡ bit mask self }
+        ensures { result ≡ has_bit mask self }
     {
         (mask >> self.number) & 1 == 1
     }
 
     fn is_ignored(self, mask: u32) -> bool
-        ensures { result ≡ ignored mask self }
+        ensures { result ≡ is_ignored mask self }
     {
         !matches!(self.number, KILL | CONT | STOP) && self.has_bit(mask)
     }
@@ -98,7 +98,7 @@ impl Signal {
 impl Life {
     // The life once a signal was delivered.
     pub(crate) fn delivered(self, mask: u32, signal: Signal) -> Life
-        ensures { result ≡ delivered mask signal self }
+        ensures { result ≡ deliver mask signal self }
     {
         match (self, signal.number()) {
             (Life::Ended(_), _) => self,

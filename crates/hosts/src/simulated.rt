@@ -2,7 +2,7 @@
 ghost use Rattle.std.specs.Prelude.{◌≡◌};
 ghost use Rattle.host.specs.Calls as Calls;
 ghost use Rattle.hosts.specs.Children.{is_living, life_of};
-ghost use Rattle.hosts.specs.Simulated.{Did, after, answer, book_of, fresh, happened, view};
+ghost use Rattle.hosts.specs.Simulated.{Did, state_after, answer, book_of, fresh_host, make_happen, view};
 ghost use Rattle.hosts.specs.Roster.{items};
 ghost use Rattle.hosts.specs.Book;
 
@@ -27,7 +27,7 @@ pub struct SimulatedHost {
 
 impl SimulatedHost {
     pub fn new(mask: u32, options: SpawnOptions) -> Self
-        ensures { view result ≡ fresh mask options }
+        ensures { view result ≡ fresh_host mask options }
     {
         SimulatedHost {
             roster: Roster::new(),
@@ -40,7 +40,7 @@ impl SimulatedHost {
 
     fn send(&mut self, child: u32, signal: u8) -> Result<(), Fault>
         ensures answer { result ≡ answer (view self.old) (Calls.signal child signal) }
-        ensures after { view self.new ≡ after (view self.old) (Calls.signal child signal) }
+        ensures state_after { view self.new ≡ state_after (view self.old) (Calls.signal child signal) }
     {
         self.served += 1;
         // Not `ok_or(..)?`: with it, the checker makes a proof about borrows that it then refuses.
@@ -58,7 +58,7 @@ impl SimulatedHost {
     // A living child ends by itself, and true is answered; else nothing changes. Not counted as a call.
     pub fn exit(&mut self, child: u32, code: u8) -> bool
         ensures answer { result ≡ is_living (life_of child (view self.old).children) }
-        ensures after { view self.new ≡ happened child (Life.Ended (End.Exited code)) (view self.old) }
+        ensures state_after { view self.new ≡ make_happen child (Life.Ended (End.Exited code)) (view self.old) }
     {
         self.roster
             .put_living(child, Life::Ended(End::Exited(code)))
@@ -67,7 +67,7 @@ impl SimulatedHost {
     // A living child stops by itself, and true is answered; else nothing changes. Not counted as a call.
     pub fn stop(&mut self, child: u32) -> bool
         ensures answer { result ≡ is_living (life_of child (view self.old).children) }
-        ensures after { view self.new ≡ happened child Life.Stopped (view self.old) }
+        ensures state_after { view self.new ≡ make_happen child Life.Stopped (view self.old) }
     {
         self.roster.put_living(child, Life::Stopped)
     }

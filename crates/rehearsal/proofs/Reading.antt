@@ -6,7 +6,7 @@ use Rattle.rehearsal.specs.declared.line.Line.{Line}
 use Rattle.rehearsal.specs.declared.script.ScriptFault.{ScriptFault}
 use Rattle.rehearsal.specs.declared.script.ScriptFault as ScriptFaults
 use Rattle.rehearsal.specs.Lines.{line_of}
-use Rattle.rehearsal.specs.Parts.{parted}
+use Rattle.rehearsal.specs.Parts.{part_at}
 use Rattle.rehearsal.specs.Script.{with_line, lines_from}
 use Rattle.rehearsal.proofs.Splits.{split_first, split_none}
 
@@ -34,11 +34,11 @@ before_others n text [] some = absurd (omega arith)
 before_others n text (next ∷ texts) some = refl
 
 -- a text up to its first line feed is the first line, which says o
-pub first_line : (n : ℕ) (s text behind : List ℕ) (o : Option Line) → Some (text, behind) ≡ parted 10 s → o ≡ line_of (n == 1) text → said n s ≡ with_line n o (said (n + 1) behind)
+pub first_line : (n : ℕ) (s text behind : List ℕ) (o : Option Line) → Some (text, behind) ≡ part_at 10 s → o ≡ line_of (n == 1) text → said n s ≡ with_line n o (said (n + 1) behind)
 first_line n s text behind o e says =
     rw (split_first 10 s text behind e, says) (before_others n text (slice_split is_feed behind) (omega (arith, length-slice_split is_feed behind)))
 
 -- a text without one is faulty, unless it is empty
-pub unended : (n : ℕ) (s : List ℕ) → None ≡ parted 10 s → 0 < length s → said n s ≡ Err (ScriptFaults.TheVariants.Line n)
+pub unended : (n : ℕ) (s : List ℕ) → None ≡ part_at 10 s → 0 < length s → said n s ≡ Err (ScriptFaults.TheVariants.Line n)
 unended n [] e some = absurd (omega arith)
 unended n (b ∷ bs) e some = ap (lines_from n) (split_none 10 (b ∷ bs) e)

@@ -1,11 +1,11 @@
 // A text taken apart at a mark.
 ghost use Rattle.std.specs.Prelude.{◌≡◌};
 ghost use Rattle.std.specs.Option.{option_map};
-ghost use Rattle.rehearsal.specs.Parts.{parted};
+ghost use Rattle.rehearsal.specs.Parts.{part_at};
 
 // What stands before the first mark and what stands behind it, if there is a mark.
 pub(crate) fn cut(text: &[u8], mark: u8) -> Option<(&[u8], &[u8])>
-    ensures { option_map (λ p. (p.0.now, p.1.now)) result ≡ parted mark text.now }
+    ensures { option_map (λ p. (p.0.now, p.1.now)) result ≡ part_at mark text.now }
 {
     let at = text.iter().position(|byte| *byte == mark)?;
     Some((&text[..at], &text[at + 1..]))

@@ -2,7 +2,7 @@
 ghost use Rattle.std.specs.Prelude.{◌≡◌, ◌++◌, take, OnOk, string_bytes};
 ghost use Rattle.std.specs.List.{flat_map};
 ghost use Rattle.rehearsal.specs.Buffer.{contents};
-ghost use Rattle.rehearsal.specs.Printed.{answered_text, fault_text, line_text, record_text};
+ghost use Rattle.rehearsal.specs.Printed.{result_text, fault_text, line_text, record_text};
 
 use crate::buffer::LineBuffer;
 use crate::script::ScriptFault;
@@ -28,7 +28,7 @@ pub(crate) fn fault_line(fault: ScriptFault) -> LineBuffer
 
 // The number of a line, its letter, refusal and value.
 fn answer_line(number: usize, letter: char, answer: Result<u32, Refusal>) -> LineBuffer
-    ensures { contents result ≡ answered_text number letter answer }
+    ensures { contents result ≡ result_text number letter answer }
 {
     let (refusal, value) = match answer {
         Ok(value) => (0, value),

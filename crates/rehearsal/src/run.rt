@@ -5,8 +5,8 @@ ghost use Rattle.hosts.specs.declared.children.End.TheVariants.{Exited};
 ghost use Rattle.hosts.specs.declared.children.Life.TheVariants as Life;
 ghost use Rattle.supervisor.specs.declared.errors.Refusal.TheVariants.{Unknown};
 ghost use Rattle.supervisor.specs.Job as Spec;
-ghost use Rattle.rehearsal.specs.Plays.{beginning, made, opened, play, told};
-ghost use Rattle.rehearsal.specs.View.{answered, played, state_of};
+ghost use Rattle.rehearsal.specs.Plays.{beginning, make_job, new_state, play, tell_event};
+ghost use Rattle.rehearsal.specs.View.{answer_end, play_end, state_of};
 ghost use Rattle.rehearsal.specs.Printed.{text_from};
 
 use crate::line::Line;
@@ -51,7 +51,7 @@ impl Rehearsal {
 
     // Bits of the mask above 31 name no signal.
     fn with(options: u8, mask: u64) -> Result<Rehearsal, Refusal>
-        ensures { result_map_both state_of (λ refusal. refusal) result ≡ result_map_both (opened mask) (λ refusal. refusal) (Spec.make 1 options) }
+        ensures { result_map_both state_of (λ refusal. refusal) result ≡ result_map_both (new_state mask) (λ refusal. refusal) (Spec.make 1 options) }
     {
         let job = Job::new(PROGRAM, options)?;
         let host = SimulatedHost::new((mask & 0xffff_ffff) as u32, job.command().options);
@@ -64,7 +64,7 @@ impl Rehearsal {
     }
 
     fn make(&mut self, options: u64, mask: u64) -> Result<u32, Refusal>
-        ensures { answered result self.new ≡ made (state_of self.old) mask (Spec.make 1 options) }
+        ensures { answer_end result self.new ≡ make_job (state_of self.old) mask (Spec.make 1 options) }
     {
         let options = u8::try_from(options).map_err(|_| Refusal::Number)?;
         *self = Rehearsal::with(options, mask)?;
@@ -72,20 +72,20 @@ impl Rehearsal {
     }
 
     fn exit(&mut self, child: u64, code: u8) -> Result<u32, Refusal>
-        ensures { answered result self.new ≡ told (state_of self.old) child (Life.Ended (Exited code)) }
+        ensures { answer_end result self.new ≡ tell_event (state_of self.old) child (Life.Ended (Exited code)) }
     {
         if_living(self.host.exit(known(child)?, code))
     }
 
     fn stop(&mut self, child: u64) -> Result<u32, Refusal>
-        ensures { answered result self.new ≡ told (state_of self.old) child Life.Stopped }
+        ensures { answer_end result self.new ≡ tell_event (state_of self.old) child Life.Stopped }
     {
         if_living(self.host.stop(known(child)?))
     }
 
     // Does what one line says, which was read from a text, and so is no closure.
     fn play(&mut self, line: Line) -> Done
-        ensures { played result self.new ≡ play (state_of self.old) line }
+        ensures { play_end result self.new ≡ play (state_of self.old) line }
     {
         match line {
             Line::Make { options, mask } => self.make(options, mask).into(),

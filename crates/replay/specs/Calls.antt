@@ -11,7 +11,7 @@ use Rattle.foreground.specs.Simulated as Simulated
 use Rattle.supervisor.specs.Steps.{Moment}
 use Rattle.drive.specs.declared.calls.Call.{Call}
 use Rattle.drive.specs.declared.calls.Done.{Done}
-use Rattle.drive.specs.Answers.{only_answered}
+use Rattle.drive.specs.Answers.{done_without}
 use Rattle.drive.specs.Calls.{Makes}
 use Rattle.rehearsal.specs.Printed.{line_text}
 use Rattle.replay.specs.declared.line.Line.{Line}
@@ -36,7 +36,7 @@ Calls call old done new = Makes by_prepared by_simulated call (moment old) done 
 -- Where there is no place for a group, nothing is answered.
 abbrev pub Plays : Line → Run → Option Done → Run → Type 0
 Plays (Lines.TheVariants.Call call) old answer new = (done : Done) × (called : Run) × (answer ≡ Some done) × Calls call old done called × OnlyGroups called.session new.session × (new ≡ record called { session = new.session })
-Plays (Lines.TheVariants.Terminal setting) old answer new = ((answer ≡ None) ⊎ (answer ≡ Some (only_answered (Ok 0)))) × (new ≡ record old { session = new.session })
+Plays (Lines.TheVariants.Terminal setting) old answer new = ((answer ≡ None) ⊎ (answer ≡ Some (done_without (Ok 0)))) × (new ≡ record old { session = new.session })
 
 -- what is printed of a line is its first character, what its call answered, and the records that it wrote
 abbrev pub Adds : ℕ → List ℕ → Run → List ℕ → Run → List ℕ → Type 0

@@ -14,9 +14,9 @@ use Rattle.supervisor.specs.declared.timer.Timer.{Timer}
 use Rattle.supervisor.specs.Job.{JobView, look}
 
 -- where a step was accepted, P holds of the records that it wrote on the sheet
-abbrev pub Accepting : Result Stepped Refusal → List Record → (List Record → Type 0) → Type 0
-Accepting (Ok s) sheet P = P (take s.records sheet)
-Accepting (Err r) sheet P = ⊤
+abbrev pub IfAccepted : Result Stepped Refusal → List Record → (List Record → Type 0) → Type 0
+IfAccepted (Ok s) sheet P = P (take s.records sheet)
+IfAccepted (Err r) sheet P = ⊤
 
 -- the timer t is pending
 abbrev pub Pends : Timer → JobView → Type 0
@@ -24,7 +24,7 @@ Pends t v = v.mailbox.timer ≡ Some t
 
 -- THE DEADLINE'S MESSAGE IS TAKEN EXACTLY WHEN ITS TIME HAS COME. Then the timer, and with it the restart memory, is gone, and no
 -- queue is read; before that time it stays.
-pub record TakenWhenDue (time : ℕ) (v v' : JobView) : Type 0 where
+pub record TakesWhenDue (time : ℕ) (v v' : JobView) : Type 0 where
   pub due : (t : Timer) → Pends t v → t.deadline ≤ time → (v'.mailbox.timer ≡ None) × (v'.mailbox.queues ≡ v.mailbox.queues)
   pub early : (t : Timer) → Pends t v → time < t.deadline → v'.mailbox.timer ≡ v.mailbox.timer
 
@@ -69,5 +69,5 @@ reports_end r = is_poll r.call && is_end r.answer
 
 -- A TIMER'S TICKET IS RAISED WHEN ITS CHILD ENDS FIRST. Who holds it and was told to wait is told that it is done; the timer, and
 -- with it the restart memory, is gone.
-abbrev pub RaisedAtEnd : JobView → List Record → JobView → Type 0
-RaisedAtEnd v records v' = (t : Timer) → Pends t v → 1 ≤ count_by reports_end records → (v'.mailbox.timer ≡ None) × (look t.ticket v ≡ Ok false → look t.ticket v' ≡ Ok true)
+abbrev pub RaisesAtEnd : JobView → List Record → JobView → Type 0
+RaisesAtEnd v records v' = (t : Timer) → Pends t v → 1 ≤ count_by reports_end records → (v'.mailbox.timer ≡ None) × (look t.ticket v ≡ Ok false → look t.ticket v' ≡ Ok true)

@@ -3,7 +3,7 @@ ghost use Rattle.std.specs.Prelude.{◌≡◌, ◌+◌, ◌^◌, ◌<◌, ◌≤
 ghost use Rattle.std.specs.Option.{option_map};
 ghost use Rattle.tickets.specs.Tickets.{ticket_room};
 ghost use Rattle.supervisor.specs.Mailbox as Mail;
-ghost use Rattle.supervisor.specs.Sends.{listed};
+ghost use Rattle.supervisor.specs.Sends.{list_of};
 ghost use Rattle.supervisor.specs.Timers as Timers;
 ghost use Rattle.supervisor.specs.View.{mailbox_view};
 
@@ -54,7 +54,7 @@ impl Received {
 impl Mailbox {
     // A mailbox with no messages and no tickets.
     pub(crate) fn new() -> Self
-        ensures { mailbox_view result ≡ Mail.empty }
+        ensures { mailbox_view result ≡ Mail.empty_mailbox }
     {
         Mailbox {
             queues: Queues::default(),
@@ -68,7 +68,7 @@ impl Mailbox {
     fn admit(&mut self, priority: Priority, control: Control, held: bool) -> u32
         requires { (Mail.queue_room priority 1 (mailbox_view self.old).queues ≡ true) × (ticket_room 1 (mailbox_view self.old).tickets.issued (mailbox_view self.old).tickets.table ≡ true) }
         ensures ticket { result ≡ (mailbox_view self.old).tickets.issued + 1 }
-        ensures after { mailbox_view self.new ≡ Mail.admitted priority control held (mailbox_view self.old) }
+        ensures after { mailbox_view self.new ≡ Mail.admit priority control held (mailbox_view self.old) }
     {
         let ticket = self.tickets.issue(held).unwrap();
         self.queues
@@ -79,7 +79,7 @@ impl Mailbox {
     // Gives each control a ticket, the last one a held one, which is answered, and adds them to their queue; or refuses all, for
     // what they carry, or where the queue or the ticket table lacks room.
     pub(crate) fn send(&mut self, priority: Priority, controls: Controls) -> Result<u32, Refusal>
-        ensures answer { (mailbox_view self.new, result) ≡ Mail.send priority (listed controls) (mailbox_view self.old) }
+        ensures answer { (mailbox_view self.new, result) ≡ Mail.send priority (list_of controls) (mailbox_view self.old) }
         ensures unchanged { OnErr result (self.new ≡ self.old) }
     {
         controls.fit()?;
@@ -99,7 +99,7 @@ impl Mailbox {
 
     // The message of the timer, if its deadline has come.
     fn due(&self, time: u64) -> Option<ControlMessage>
-        ensures { result ≡ Timers.due time (mailbox_view self.now).timer }
+        ensures { result ≡ Timers.due_message time (mailbox_view self.now).timer }
     {
         self.timer
             .filter(|timer| timer.deadline <= time)
@@ -141,14 +141,14 @@ impl Mailbox {
 
     // Frees the place of a ticket.
     pub(crate) fn vacate(&mut self, ticket: u32)
-        ensures { mailbox_view self.new ≡ Mail.vacated ticket (mailbox_view self.old) }
+        ensures { mailbox_view self.new ≡ Mail.vacate_ticket ticket (mailbox_view self.old) }
     {
         self.tickets.vacate(ticket);
     }
 
     // Raises each ticket of the ending list, and empties the list.
     fn raise_ending(&mut self)
-        ensures { mailbox_view self.new ≡ Mail.endings_raised (mailbox_view self.old) }
+        ensures { mailbox_view self.new ≡ Mail.raise_endings (mailbox_view self.old) }
     {
         let (older, newer) = self.ending.as_slices();
         self.tickets.raise_each(older);
@@ -183,7 +183,7 @@ impl Mailbox {
 
     // The child has ended: raises the timer's ticket, drops the timer, and raises the ending list.
     fn raise_ended(&mut self)
-        ensures { mailbox_view self.new ≡ Mail.ended (mailbox_view self.old) }
+        ensures { mailbox_view self.new ≡ Mail.raise_at_end (mailbox_view self.old) }
     {
         if let Some(timer) = self.timer {
             self.timer = None;
@@ -194,7 +194,7 @@ impl Mailbox {
 
     // Sees to the tickets that wait for the child's end, once it was polled.
     pub(crate) fn after_poll(&mut self, outcome: PollOutcome)
-        ensures { mailbox_view self.new ≡ Mail.after_poll outcome (mailbox_view self.old) }
+        ensures { mailbox_view self.new ≡ Mail.settle_poll outcome (mailbox_view self.old) }
     {
         let memory = self.memory();
         match outcome {

@@ -39,7 +39,7 @@ impl Queues {
     // Adds a message to a queue that has room.
     pub(crate) fn send(&mut self, priority: Priority, message: ControlMessage)
         requires { Mail.queue_room priority 1 (queues_view self.old) ≡ true }
-        ensures { queues_view self.new ≡ Mail.enqueued priority message (queues_view self.old) }
+        ensures { queues_view self.new ≡ Mail.enqueue priority message (queues_view self.old) }
     {
         let _ = match priority {
             Priority::Normal => self.normal.push(message),

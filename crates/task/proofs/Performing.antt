@@ -7,16 +7,16 @@ use Rattle.host.specs.declared.state.ProcessEnd.{ProcessEnd}
 use Rattle.host.specs.declared.state.CommandState.{CommandState}
 use Rattle.host.specs.declared.state.CommandState.TheVariants.{Pending, Running, Finished}
 use Rattle.host.specs.Calls.{Call, Reply}
-use Rattle.host.specs.Interaction.{Interaction, done, bind, Answered}
+use Rattle.host.specs.Interaction.{Interaction, done, bind, IsAnswered}
 use Rattle.host.specs.Journal.{record_of}
 use Rattle.task.specs.declared.step.Step.{Step}
 use Rattle.task.specs.declared.task.Task.{Task}
-use Rattle.task.specs.Place.{Asked, world}
-use Rattle.task.specs.Performs.{Performs, Asks, Records, Same, place}
+use Rattle.task.specs.Place.{IsRecorded, world}
+use Rattle.task.specs.Performs.{Performs, Asks, Records, LendsSame, step_world}
 use Rattle.task.proofs.Running.{traces-bind}
 
 module _ {H T : Type 0} where
-  same_then : {s m s' : Step H T} → Same s m → Same m s' → Same s s'
+  same_then : {s m s' : Step H T} → LendsSame s m → LendsSame m s' → LendsSame s s'
   same_then a b = record { task = b.task ∙ a.task; host = b.host ∙ a.host; terminal = b.terminal ∙ a.terminal; sheet = b.sheet ∙ a.sheet; time = b.time ∙ a.time }
 
 module _ {H T : Type 0} {by_host : Host.Ghosts H} {by_terminal : Terminal.Ghosts T} where
@@ -46,18 +46,18 @@ module _ {H T : Type 0} {by_host : Host.Ghosts H} {by_terminal : Terminal.Ghosts
   where_idle f (Finished end began finished) idle same k = rw (same end began finished) k
 
   -- one call that was answered, and then recorded: it left h in the host and k in the terminal
-  pub asked : {c : Call} {a : Reply c} {s s' : Step H T} {h : H} {k : T} {r : Record} → Answered by_host by_terminal (world (place s)) c a (record { host = h; terminal = k }) → Records r (record s { host = record s.host { now = h }; terminal = record s.terminal { now = k } }) s' → r ≡ record_of c a → Asks by_host by_terminal c s a s'
+  pub asked : {c : Call} {a : Reply c} {s s' : Step H T} {h : H} {k : T} {r : Record} → IsAnswered by_host by_terminal (world (step_world s)) c a (record { host = h; terminal = k }) → Records r (record s { host = record s.host { now = h }; terminal = record s.terminal { now = k } }) s' → r ≡ record_of c a → Asks by_host by_terminal c s a s'
   asked {c} {a} {s} {s'} d w e =
-      let answered : Answered by_host by_terminal (world (place s)) c a (world (place s')) = rw (w.host, w.terminal) d in
-      let here : Asked by_host by_terminal (place s) c a (place s') = (answered, rw (← e) w.sheet, w.used) in
+      let answered : IsAnswered by_host by_terminal (world (step_world s)) c a (world (step_world s')) = rw (w.host, w.terminal) d in
+      let here : IsRecorded by_host by_terminal (step_world s) c a (step_world s') = (answered, rw (← e) w.sheet, w.used) in
       record {
-        performs = record { ran = record { trace = (c, a) ∷ []; traces = (a, place s', [], refl, here, (refl, refl, refl)) }; used = omega (arith, w.used); same = record { task = rw w.task refl; host = rw w.host refl; terminal = rw w.terminal refl; sheet = w.same_sheet; time = w.time } };
+        performs = record { ran = record { trace = (c, a) ∷ []; traces = (a, step_world s', [], refl, here, (refl, refl, refl)) }; used = omega (arith, w.used); same = record { task = rw w.task refl; host = rw w.host refl; terminal = rw w.terminal refl; sheet = w.same_sheet; time = w.time } };
         task = rw w.task refl;
       }
 
   -- one tree, and the one that follows from its value
   pub and_then : {A B : Type 0} (t : Interaction A) (f : A → Interaction B) {a b : ℕ} {s m s' : Step H T} {x : A} {y : B} → Performs by_host by_terminal a t s x m → Performs by_host by_terminal b (f x) m y s' → Performs by_host by_terminal (a + b) (bind t f) s y s'
-  and_then t f {s = s} {m = m} {s' = s'} {x = x} {y = y} u v = record { ran = record { trace = u.ran.trace ++ v.ran.trace; traces = traces-bind (Asked by_host by_terminal) t f (place s) (place m) (place s') u.ran.trace v.ran.trace x y u.ran.traces v.ran.traces }; used = omega (arith, u.used, v.used); same = same_then u.same v.same }
+  and_then t f {s = s} {m = m} {s' = s'} {x = x} {y = y} u v = record { ran = record { trace = u.ran.trace ++ v.ran.trace; traces = traces-bind (IsRecorded by_host by_terminal) t f (step_world s) (step_world m) (step_world s') u.ran.trace v.ran.trace x y u.ran.traces v.ran.traces }; used = omega (arith, u.used, v.used); same = same_then u.same v.same }
 
   -- fewer calls than allowed
   pub at_most : {A : Type 0} {t : Interaction A} {a : ℕ} {s s' : Step H T} {x : A} (b : ℕ) → a ≤ b → Performs by_host by_terminal a t s x s' → Performs by_host by_terminal b t s x s'

@@ -9,7 +9,7 @@ use Rattle.task.specs.declared.messages.Control.{Control}
 use Rattle.task.specs.declared.task.Outcome.{Outcome}
 use Rattle.task.specs.declared.task.PollOutcome.{PollOutcome}
 use Rattle.task.specs.Task as Tree
-use Rattle.task.specs.Task.{TaskView, children, Granted}
+use Rattle.task.specs.Task.{TaskView, children, GrantMeansRunning}
 use Rattle.task.proofs.Always.{Always, always_traced}
 use Rattle.task.proofs.Books.{Books, moved, moved_from}
 use Rattle.task.proofs.Courses.{FitsTask, Carried, Polled, control_fits, poll_fits, pause_fits}
@@ -33,7 +33,7 @@ fitting_terminal t = record { own = 1; grants = from_bool t.foreground.grant; se
 pub fitting : (t : TaskView) → Fitting t (fitting_host t) (fitting_terminal t)
 fitting t = record { roster = refl; grants = refl }
 
-module _ {W : Type 0} (did : W → (c : Call) → Reply c → W → Type 0) (t : TaskView) (g : Granted t) where
+module _ {W : Type 0} (did : W → (c : Call) → Reply c → W → Type 0) (t : TaskView) (g : GrantMeansRunning t) where
   pub traced : {A : Type 0} (R : Books → A → Type 0) (tree : Interaction A) (w w' : W) (p : List Event) (x : A) → ((b : Books) → FitsTask 0 t b → Always moved R b tree) → Traces did tree w p x w' → (h : HostBook) (u : TerminalBook) → Fitting t h u → R (after h u p) x
   traced R tree w w' p x k r h u f =
       let b : Books = record { roster = h.roster; grants = u.grants; tried = 0 } in

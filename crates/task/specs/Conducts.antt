@@ -4,7 +4,7 @@ use Rattle.host.specs.declared.journal.Record.{Record}
 use Rattle.host.specs.declared.process.Host as Host
 use Rattle.host.specs.declared.terminal.Terminal as Terminal
 use Rattle.host.specs.Calls.{Event}
-use Rattle.host.specs.Interaction.{Interaction, Traces, World, Answered}
+use Rattle.host.specs.Interaction.{Interaction, Traces, World, IsAnswered}
 use Rattle.host.specs.Journal.{journal}
 use Rattle.task.specs.declared.task.Task.{Task}
 use Rattle.task.specs.Task.{TaskView}
@@ -14,7 +14,7 @@ use Rattle.task.specs.View.{task_view}
 -- them what the sheet xs held.
 pub record Conducts {H T A : Type 0} (by_host : Host.Ghosts H) (by_terminal : Terminal.Ghosts T) (tree : Interaction A) (w : World H T) (xs : List Record) (x : A) (n : ℕ) (w' : World H T) (ys : List Record) : Type 0 where
   pub trace : List Event
-  pub traces : Traces (Answered by_host by_terminal) tree w trace x w'
+  pub traces : Traces (IsAnswered by_host by_terminal) tree w trace x w'
   pub count : n ≡ length trace
   pub sheet : ys ≡ journal trace ++ drop (length trace) xs
 

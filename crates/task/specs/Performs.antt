@@ -6,24 +6,24 @@ use Rattle.host.specs.declared.terminal.Terminal as Terminal
 use Rattle.host.specs.Calls.{Call, Reply}
 use Rattle.host.specs.Interaction.{Interaction, call}
 use Rattle.task.specs.declared.step.Step.{Step}
-use Rattle.task.specs.Place.{Place, Ran}
+use Rattle.task.specs.Place.{StepWorld, Ran}
 use Rattle.task.specs.Task.{TaskView}
 use Rattle.task.specs.View.{task_view}
 
 -- the sheet has room for n records more
-abbrev pub Room : {H T : Type 0} → ℕ → Step H T → Type 0
-Room n s = s.used + n ≤ length s.sheet.now
+abbrev pub HasRoom : {H T : Type 0} → ℕ → Step H T → Type 0
+HasRoom n s = s.used + n ≤ length s.sheet.now
 
 -- the task of a step
 abbrev pub task_of : {H T : Type 0} → Step H T → TaskView
 task_of s = task_view s.task.now
 
 -- what the host, the terminal and the sheet hold
-abbrev pub place : {H T : Type 0} → Step H T → Place H T
-place s = record { host = s.host.now; terminal = s.terminal.now; sheet = s.sheet.now; used = s.used }
+abbrev pub step_world : {H T : Type 0} → Step H T → StepWorld H T
+step_world s = record { host = s.host.now; terminal = s.terminal.now; sheet = s.sheet.now; used = s.used }
 
 -- the same things are lent, at the same time
-pub record Same {H T : Type 0} (s s' : Step H T) : Type 0 where
+pub record LendsSame {H T : Type 0} (s s' : Step H T) : Type 0 where
   pub task : s'.task.ghost_name ≡ s.task.ghost_name
   pub host : s'.host.ghost_name ≡ s.host.ghost_name
   pub terminal : s'.terminal.ghost_name ≡ s.terminal.ghost_name
@@ -32,9 +32,9 @@ pub record Same {H T : Type 0} (s s' : Step H T) : Type 0 where
 
 -- The tree t was run from s to s' and ended with x, with at most `most` calls.
 pub record Performs {H T A : Type 0} (by_host : Host.Ghosts H) (by_terminal : Terminal.Ghosts T) (most : ℕ) (t : Interaction A) (s : Step H T) (x : A) (s' : Step H T) : Type 0 where
-  pub ran : Ran by_host by_terminal t (place s) x (place s')
+  pub ran : Ran by_host by_terminal t (step_world s) x (step_world s')
   pub used : s'.used ≤ s.used + most
-  pub same : Same s s'
+  pub same : LendsSame s s'
 
 -- the call was made and answered a, and the task is as it was
 pub record Asks {H T : Type 0} (by_host : Host.Ghosts H) (by_terminal : Terminal.Ghosts T) (c : Call) (s : Step H T) (a : Reply c) (s' : Step H T) : Type 0 where

@@ -2,7 +2,7 @@
 // what is recorded as closures, which its contract had to tie to the call, and would be no shorter where it is called.
 ghost use Rattle.host.specs.Calls as Calls;
 ghost use Rattle.host.specs.Journal as Journal;
-ghost use Rattle.task.specs.Performs.{Asks, Records, Room};
+ghost use Rattle.task.specs.Performs.{Asks, Records, HasRoom};
 
 use crate::step::Step;
 use host::command::SpawnOptions;
@@ -15,8 +15,8 @@ use host::terminal::Terminal;
 impl<H: Host, T: Terminal> Step<'_, H, T> {
     // Records a call and its answer in the next place of the sheet.
     fn record(&mut self, call: CallKind, child: u32, number: u32, answer: Answer)
-        requires { Room 1 self.old }
-        ensures { Records (Journal.entry call child number answer) self.old self.new }
+        requires { HasRoom 1 self.old }
+        ensures { Records (Journal.journal_record call child number answer) self.old self.new }
     {
         self.sheet[self.used] = Record {
             call,
@@ -34,7 +34,7 @@ impl<H: Host, T: Terminal> Step<'_, H, T> {
         way: u8,
         time: u64,
     ) -> Result<u32, Fault>
-        requires { Room 1 self.old }
+        requires { HasRoom 1 self.old }
         ensures { Asks H.Host T.Terminal (Calls.to_host (Calls.spawn program options way time)) self.old result self.new }
     {
         let reply = self.host.spawn(program, options, way, time);
@@ -44,7 +44,7 @@ impl<H: Host, T: Terminal> Step<'_, H, T> {
     }
 
     pub(crate) fn poll(&mut self, child: u32) -> Result<Option<ProcessEnd>, Fault>
-        requires { Room 1 self.old }
+        requires { HasRoom 1 self.old }
         ensures { Asks H.Host T.Terminal (Calls.to_host (Calls.poll child)) self.old result self.new }
     {
         let reply = self.host.poll(child);
@@ -56,7 +56,7 @@ impl<H: Host, T: Terminal> Step<'_, H, T> {
     }
 
     pub(crate) fn wait(&mut self, child: u32) -> Result<ProcessEnd, Fault>
-        requires { Room 1 self.old }
+        requires { HasRoom 1 self.old }
         ensures { Asks H.Host T.Terminal (Calls.to_host (Calls.wait child)) self.old result self.new }
     {
         let reply = self.host.wait(child);
@@ -66,7 +66,7 @@ impl<H: Host, T: Terminal> Step<'_, H, T> {
     }
 
     pub(crate) fn kill(&mut self, child: u32) -> Result<(), Fault>
-        requires { Room 1 self.old }
+        requires { HasRoom 1 self.old }
         ensures { Asks H.Host T.Terminal (Calls.to_host (Calls.kill child)) self.old result self.new }
     {
         let reply = self.host.kill(child);
@@ -75,7 +75,7 @@ impl<H: Host, T: Terminal> Step<'_, H, T> {
     }
 
     pub(crate) fn signal(&mut self, child: u32, signal: u8) -> Result<(), Fault>
-        requires { Room 1 self.old }
+        requires { HasRoom 1 self.old }
         ensures { Asks H.Host T.Terminal (Calls.to_host (Calls.signal child signal)) self.old result self.new }
     {
         let reply = self.host.signal(child, signal);
@@ -84,7 +84,7 @@ impl<H: Host, T: Terminal> Step<'_, H, T> {
     }
 
     pub(crate) fn cont(&mut self, child: u32) -> Result<(), Fault>
-        requires { Room 1 self.old }
+        requires { HasRoom 1 self.old }
         ensures { Asks H.Host T.Terminal (Calls.to_host (Calls.cont child)) self.old result self.new }
     {
         let reply = self.host.cont(child);
@@ -93,7 +93,7 @@ impl<H: Host, T: Terminal> Step<'_, H, T> {
     }
 
     pub(crate) fn let_go(&mut self, child: u32)
-        requires { Room 1 self.old }
+        requires { HasRoom 1 self.old }
         ensures { Asks H.Host T.Terminal (Calls.to_host (Calls.let_go child)) self.old tt self.new }
     {
         self.host.let_go(child);
@@ -106,7 +106,7 @@ impl<H: Host, T: Terminal> Step<'_, H, T> {
         state: CommandState,
         previous: Option<CommandState>,
     ) -> Result<SpawnOptions, Fault>
-        requires { Room 1 self.old }
+        requires { HasRoom 1 self.old }
         ensures { Asks H.Host T.Terminal (Calls.to_host (Calls.hook number state previous)) self.old result self.new }
     {
         let reply = self.host.hook(number, state, previous);
@@ -121,7 +121,7 @@ impl<H: Host, T: Terminal> Step<'_, H, T> {
         state: CommandState,
         previous: Option<CommandState>,
     ) -> Result<(), Fault>
-        requires { Room 1 self.old }
+        requires { HasRoom 1 self.old }
         ensures { Asks H.Host T.Terminal (Calls.to_host (Calls.routine number state previous)) self.old result self.new }
     {
         let reply = self.host.routine(number, state, previous);
@@ -130,7 +130,7 @@ impl<H: Host, T: Terminal> Step<'_, H, T> {
     }
 
     pub(crate) fn tell(&mut self, handler: u8, fault: Fault) -> Result<(), Fault>
-        requires { Room 1 self.old }
+        requires { HasRoom 1 self.old }
         ensures { Asks H.Host T.Terminal (Calls.to_host (Calls.tell handler fault)) self.old result self.new }
     {
         let reply = self.host.tell(handler, fault);
@@ -139,7 +139,7 @@ impl<H: Host, T: Terminal> Step<'_, H, T> {
     }
 
     pub(crate) fn owner(&mut self) -> Option<u32>
-        requires { Room 1 self.old }
+        requires { HasRoom 1 self.old }
         ensures { Asks H.Host T.Terminal (Calls.to_terminal Calls.owner) self.old result self.new }
     {
         let reply = self.terminal.owner();
@@ -149,7 +149,7 @@ impl<H: Host, T: Terminal> Step<'_, H, T> {
     }
 
     pub(crate) fn acquire(&mut self, group: u32) -> Result<(), Fault>
-        requires { Room 1 self.old }
+        requires { HasRoom 1 self.old }
         ensures { Asks H.Host T.Terminal (Calls.to_terminal (Calls.acquire group)) self.old result self.new }
     {
         let reply = self.terminal.acquire(group);
@@ -158,7 +158,7 @@ impl<H: Host, T: Terminal> Step<'_, H, T> {
     }
 
     pub(crate) fn release(&mut self)
-        requires { Room 1 self.old }
+        requires { HasRoom 1 self.old }
         ensures { Asks H.Host T.Terminal (Calls.to_terminal Calls.release) self.old tt self.new }
     {
         self.terminal.release();

@@ -2,7 +2,7 @@
 ghost use Rattle.std.specs.Prelude.{ℕ};
 ghost use Rattle.host.specs.Interaction.{Interaction};
 ghost use Rattle.task.specs.Conducts.{Offered};
-ghost use Rattle.task.specs.Performs.{Performs, Room, task_of};
+ghost use Rattle.task.specs.Performs.{Performs, HasRoom, task_of};
 ghost use Rattle.task.specs.Task as Tree;
 ghost use Rattle.task.specs.Task.{TaskView};
 ghost use Rattle.task.specs.View.{task_view};
@@ -24,7 +24,7 @@ trait Work {
     ghost tree: { Self → ℕ → TaskView → Interaction (TaskView × Self.Found) };
 
     fn run<H: Host, T: Terminal>(self, step: &mut Step<'_, H, T>) -> Self::Found
-        requires { Room 8 step.old }
+        requires { HasRoom 8 step.old }
         ensures { Performs H.Host T.Terminal 8 (tree self step.old.time (task_of step.old)) step.old (task_of step.new, result) step.new };
 }
 

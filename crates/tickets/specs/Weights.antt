@@ -20,5 +20,5 @@ abbrev pub one_at : ℕ → ℕ → ℕ
 one_at s t = if s == t then 1 else 0
 
 -- each ticket weighs 1: the weight is how many there are
-abbrev pub each : ℕ → ℕ
-each _ = 1
+abbrev pub unit_weight : ℕ → ℕ
+unit_weight _ = 1

@@ -3,7 +3,7 @@ ghost use Rattle.std.specs.Prelude.{◌≡◌, ◌<◌, Bool, IfSome, Some, leng
 ghost use Rattle.std.specs.List.{find, position};
 ghost use Rattle.std.specs.Option.{option_copied};
 ghost use Rattle.tickets.specs.Searches.{Computes, Tests};
-ghost use Rattle.tickets.specs.Tickets.{TicketsView, Place, change, found, free_places, fresh, issue, raise, raise_each, risen, stands, ticket_room, vacate, waits};
+ghost use Rattle.tickets.specs.Tickets.{TicketsView, Place, change, mark_of, free_places, fresh_tickets, issue, raise, raise_each, raise_place, stands, ticket_room, vacate, waits};
 
 use std::marker::Model;
 
@@ -38,7 +38,7 @@ impl Ticket {
 
     // Its place once it is raised; a ticket that nobody holds leaves its place.
     fn risen(self) -> Place
-        ensures { result ≡ risen (Some self) }
+        ensures { result ≡ raise_place (Some self) }
     {
         match self.mark {
             Mark::Unheld => None,
@@ -109,7 +109,7 @@ impl Model for Tickets {
 impl Tickets {
     // A table with every place free.
     pub fn new() -> Self
-        ensures { result ≡ fresh }
+        ensures { result ≡ fresh_tickets }
     {
         Tickets {
             entries: [None; PLACES],
@@ -167,7 +167,7 @@ impl Tickets {
 
     // The mark of the ticket `serial`; none where it has no place.
     pub fn mark(&self, serial: u32) -> Option<Mark>
-        ensures { result ≡ found serial self.now.table }
+        ensures { result ≡ mark_of serial self.now.table }
     {
         place_of(&self.entries, serial)
             .copied()

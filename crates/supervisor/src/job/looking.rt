@@ -1,6 +1,6 @@
 // Looking at tickets, and collecting them.
 ghost use Rattle.std.specs.Prelude.{◌≡◌};
-ghost use Rattle.tickets.specs.Tickets.{found};
+ghost use Rattle.tickets.specs.Tickets.{mark_of};
 ghost use Rattle.supervisor.specs.Job as Spec;
 ghost use Rattle.supervisor.specs.Steps.{Answers, job_view};
 
@@ -11,7 +11,7 @@ use tickets::flag::Mark;
 impl Job {
     // Whether a held ticket is raised, or the job is closed.
     fn is_done(&self, ticket: u32) -> Result<bool, Refusal>
-        ensures { result ≡ Spec.looked (job_view self.now).closed (found ticket (job_view self.now).mailbox.tickets.table) }
+        ensures { result ≡ Spec.is_done (job_view self.now).closed (mark_of ticket (job_view self.now).mailbox.tickets.table) }
     {
         match self.mailbox.tickets.mark(ticket) {
             None | Some(Mark::Unheld) => Err(Refusal::Unknown),

@@ -1,7 +1,7 @@
 // The steps of a job: a control step carries out one control, a child step polls the child, a pause step takes one pause.
 ghost use Rattle.std.specs.Prelude.{◌≡◌, length};
 ghost use Rattle.supervisor.specs.Job as Spec;
-ghost use Rattle.supervisor.specs.Laws.{Accepting, Continues, NormalWaits, RaisedAtEnd, TakenWhenDue};
+ghost use Rattle.supervisor.specs.Laws.{IfAccepted, Continues, NormalWaits, RaisesAtEnd, TakesWhenDue};
 ghost use Rattle.supervisor.specs.Steps.{job_view, moment, Steps};
 
 use super::Job;
@@ -47,9 +47,9 @@ impl Job {
         time: u64,
     ) -> Result<Stepped, Refusal>
         ensures stepped { Steps H.Host T.Terminal Spec.control_step time (moment self.old host.old terminal.old sheet.old) result (moment self.new host.new terminal.new sheet.new) }
-        ensures deadline { Accepting result sheet.new (λ _. TakenWhenDue time (job_view self.old) (job_view self.new)) }
-        ensures normal { Accepting result sheet.new (λ _. NormalWaits (job_view self.old) (job_view self.new)) }
-        ensures continues { Accepting result sheet.new (λ records. Continues time (job_view self.old) records) }
+        ensures deadline { IfAccepted result sheet.new (λ _. TakesWhenDue time (job_view self.old) (job_view self.new)) }
+        ensures normal { IfAccepted result sheet.new (λ _. NormalWaits (job_view self.old) (job_view self.new)) }
+        ensures continues { IfAccepted result sheet.new (λ records. Continues time (job_view self.old) records) }
     {
         self.may_step(time, sheet.len())?; // A refused step keeps the clock.
         self.clock = time;
@@ -90,7 +90,7 @@ impl Job {
         time: u64,
     ) -> Result<Stepped, Refusal>
         ensures stepped { Steps H.Host T.Terminal Spec.child_step time (moment self.old host.old terminal.old sheet.old) result (moment self.new host.new terminal.new sheet.new) }
-        ensures ended { Accepting result sheet.new (λ records. RaisedAtEnd (job_view self.old) records (job_view self.new)) }
+        ensures ended { IfAccepted result sheet.new (λ records. RaisesAtEnd (job_view self.old) records (job_view self.new)) }
     {
         self.may_step(time, sheet.len())?;
         self.clock = time;

@@ -2,10 +2,10 @@
 use Rattle.std.proofs.Common.{Bool, is_some, sym, ap, ◌∙◌, arith}
 use Rattle.std.proofs.lemmas.Bool.Decides.{nat_tests}
 use Rattle.supervisor.specs.declared.answers.StepKind.TheVariants.{Child}
-use Rattle.supervisor.specs.Job.{watched}
+use Rattle.supervisor.specs.Job.{poll_end}
 use Rattle.supervisor.specs.Steps.{job_view}
 use Rattle.supervisor.specs.Timers.{memory}
-use Rattle.host.specs.Interaction.{Answered}
+use Rattle.host.specs.Interaction.{IsAnswered}
 use Rattle.task.specs.Task.{poll_child}
 use Rattle.task.specs.View.{task_view}
 use Rattle.task.proofs.Traced.{poll_traced, fitting}
@@ -26,14 +26,14 @@ invariant_of-self-clause-granted g c =
     let t = task_view c.args.self.now.task in
     let restart = c.is_some-restart.result in
     let run = c.in-Some.ensures.1 in
-    (poll_traced (Answered g.H.Host g.T.Terminal) t c.args.self.now.granted restart c.args.time _ _ run.trace _ run.traces _ _ (fitting t)).0
+    (poll_traced (IsAnswered g.H.Host g.T.Terminal) t c.args.self.now.granted restart c.args.time _ _ run.trace _ run.traces _ _ (fitting t)).0
 
 pub returns-clause-stepped : goal.returns-clause-stepped
 returns-clause-stepped g c =
     let v = job_view c.args.self.now in
     let restart = is_some (memory v.mailbox.timer) in
     accepted g.met.H.Host.keeps g.met.T.Terminal.keeps Child 0 c.args.time (sym c.in_ok-may_step.ensures)
-    (then_done (poll_child restart c.args.time v.task) (watched c.args.time v) (cc) (at_value (λ (b : Bool). poll_child b c.args.time v.task) (c.is_some-restart.ensures ∙ ap is_some c.memory.ensures) c.in-Some.ensures.1))
+    (then_done (poll_child restart c.args.time v.task) (poll_end c.args.time v) (cc) (at_value (λ (b : Bool). poll_child b c.args.time v.task) (c.is_some-restart.ensures ∙ ap is_some c.memory.ensures) c.in-Some.ensures.1))
 
 pub returns-clause-ended : goal.returns-clause-ended
 returns-clause-ended g c = child_accepted c.args.time _ _ _ (returns-clause-stepped g c).1

@@ -5,15 +5,15 @@ use Rattle.tickets.proofs.Tables.{room_rest}
 use Rattle.tickets.specs.Tickets.{new_mark}
 use Rattle.task.specs.declared.messages.Control.{Control}
 use Rattle.supervisor.specs.declared.queues.Priority.{Priority}
-use Rattle.supervisor.specs.Mailbox.{MailboxView, QueuesView, admitted, enqueued, queue_room, serial_room}
+use Rattle.supervisor.specs.Mailbox.{MailboxView, QueuesView, admit, enqueue, queue_room, serial_room}
 use Rattle.task.specs.declared.messages.ControlMessage.{ControlMessage}
 use Rattle.supervisor.specs.View.{mailbox_view}
 use Rattle.supervisor.proofs.mailbox.Mailbox.send.Goals as goal
 
-queue_rest : (p : Priority) (c : ControlMessage) (q : QueuesView) → queue_room p 2 q ≡ true → queue_room p 1 (enqueued p c q) ≡ true
+queue_rest : (p : Priority) (c : ControlMessage) (q : QueuesView) → queue_room p 2 q ≡ true → queue_room p 1 (enqueue p c q) ≡ true
 queue_rest p c q e = grind (arith, common_steps)
 
-rest : (p : Priority) (c : Control) (m : MailboxView) → queue_room p 2 m.queues ≡ true → serial_room 2 m ≡ true → (queue_room p 1 (admitted p c false m).queues ≡ true) × (serial_room 1 (admitted p c false m) ≡ true)
+rest : (p : Priority) (c : Control) (m : MailboxView) → queue_room p 2 m.queues ≡ true → serial_room 2 m ≡ true → (queue_room p 1 (admit p c false m).queues ≡ true) × (serial_room 1 (admit p c false m) ≡ true)
 rest p c m q s = (queue_rest p _ m.queues q, room_rest 1 m.tickets.issued (new_mark false) m.tickets.table s)
 
 pub admit-requires-3 : goal.admit-requires-3

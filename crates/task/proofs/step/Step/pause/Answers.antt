@@ -1,5 +1,5 @@
 use Rattle.std.proofs.Common.{◌≡◌, ℕ, List, [], ◌∷◌, Some, refl}
-use Rattle.ring.specs.Queue.{held}
+use Rattle.ring.specs.Queue.{items_of}
 use Rattle.ring.specs.Ring.{first, rest}
 use Rattle.host.specs.declared.state.CommandState.{CommandState}
 use Rattle.host.specs.declared.state.CommandState.TheVariants.{Running}
@@ -21,6 +21,6 @@ pub returns : goal.returns
 returns g c =
     let t = task_of c.args.self.now in
     let signal = c.in_ok-signal.signal in
-    let left = held c.pop.new.self in
+    let left = items_of c.pop.new.self in
     rw (takes t.state t.foreground.pauses left c.args.own c.in-Running.child c.in-Running.started signal t c.in-Running.is c.in_ok-signal.ensures.answer c.pop.ensures.after)
     (from_change (and_then (Tree.take_pause c.args.own c.in-Running.child signal (Tree.with_pauses left t)) (λ t₁. done (t₁, Some signal)) c.take_pause.ensures (still_at refl)))

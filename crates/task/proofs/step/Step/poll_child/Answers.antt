@@ -12,7 +12,7 @@ pub returns-in-Ok : goal.returns-in-Ok
 returns-in-Ok g c =
     let s = c.args.self.now in
     let m = c.poll.new.self in
-    let polled = Tree.polled c.args.restart c.in-Running.started in
+    let polled = Tree.after_poll c.args.restart c.in-Running.started in
     at_value (λ (state : CommandState). Tree.poll_in state c.args.restart s.time (task_of s)) (sym c.in-Running.is)
     (and_then (call _) _ c.in-Ok.ensures.performs
     (at_value (λ (k : Task). polled s.time (task_view k) (Ok c.in-Ok.end)) c.poll.ensures.task
@@ -21,7 +21,7 @@ returns-in-Ok g c =
 pub returns-in-Err : goal.returns-in-Err
 returns-in-Err g c =
     let s = c.args.self.now in
-    let tells = λ (k : Task). Tree.told (task_view k).settings.handler (Err c.in-Err.fault) in
+    let tells = λ (k : Task). Tree.tell_fault (task_view k).settings.handler (Err c.in-Err.fault) in
     at_most 5 (omega arith)
     (at_value (λ (state : CommandState). Tree.poll_in state c.args.restart s.time (task_of s)) (sym c.in-Running.is)
     (and_then (call _) _ c.in-Err.ensures.performs

@@ -14,5 +14,5 @@ returns-in-21 g c =
 pub returns-in_default : goal.returns-in_default
 returns-in_default g c =
     let t = task_of c.args.self.now in
-    let tree : Tree.take_pause c.args.own c.args.child c.args.signal t ≡ Tree.pause_begun true c.args.signal t = grind arith in
+    let tree : Tree.take_pause c.args.own c.args.child c.args.signal t ≡ Tree.on_stop true c.args.signal t = grind arith in
     rw tree (at_most 3 (omega arith) (and_then (call _) _ c.release.ensures.performs (still_at (rw c.release.ensures.task))))

@@ -1,0 +1,2 @@
+-- What is shown of the books.
+pub mod Rosters
