@@ -1,5 +1,5 @@
 -- The journal: the record of a call, and the numbers that records are written with.
-use Rattle.std.specs.Prelude.{ℕ, ◌+◌, List, map, ℤ, pos, neg_ℤ, Ok, Err, Option, Result, ⊤}
+use Rattle.std.specs.Prelude.{ℕ, ◌+◌, Bool, true, false, ◌&&◌, ◌||◌, List, map, ℤ, pos, neg_ℤ, Ok, Err, Option, Result, ⊤}
 use Rattle.std.specs.Option.{option_map_or}
 use Rattle.host.specs.declared.fault.Fault.{Fault}
 use Rattle.host.specs.declared.state.ProcessEnd.TheVariants.{Exited, Signalled, Continued}
@@ -83,3 +83,39 @@ event_record e = record_of e.0 e.1
 
 abbrev pub journal : List Event → List Record
 journal p = map event_record p
+
+-- QUESTIONS OF A RECORD
+
+abbrev pub is_spawn : CallKind → Bool
+is_spawn Spawn = true
+is_spawn kind = false
+
+-- the calls that end a child by force
+abbrev pub is_force : CallKind → Bool
+is_force Kill = true
+is_force Wait = true
+is_force kind = false
+
+abbrev pub is_poll : CallKind → Bool
+is_poll Poll = true
+is_poll kind = false
+
+abbrev pub is_fault : Answer → Bool
+is_fault (Answers.Fault f) = true
+is_fault answer = false
+
+abbrev pub is_end : Answer → Bool
+is_end (End e) = true
+is_end answer = false
+
+-- a kill, a wait or a spawn
+abbrev pub is_decisive : Record → Bool
+is_decisive r = is_force r.call || is_spawn r.call
+
+-- a kill or a wait that faulted
+abbrev pub is_failure : Record → Bool
+is_failure r = is_force r.call && is_fault r.answer
+
+-- a poll that reported an end
+abbrev pub reports_end : Record → Bool
+reports_end r = is_poll r.call && is_end r.answer

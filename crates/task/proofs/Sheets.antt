@@ -10,8 +10,7 @@ use Rattle.host.specs.Interaction.{Interaction, done, ask, bind, Traces, World, 
 use Rattle.host.specs.Journal.{record_of, event_record, journal}
 use Rattle.task.specs.declared.step.Step.{Step}
 use Rattle.task.specs.Conducts.{Conducts}
-use Rattle.task.specs.Place.{StepWorld, world, IsRecorded}
-use Rattle.task.specs.Performs.{Performs, step_world}
+use Rattle.task.specs.Performs.{StepWorld, Performs, IsRecorded, step_world, world_in}
 use Rattle.task.proofs.Running.{traces-bind}
 
 -- a write in the place i and then ys behind it, on a sheet from that place on
@@ -23,7 +22,7 @@ journal-length p = length-map p event_record
 
 module _ {H T : Type 0} (by_host : Host.Ghosts H) (by_terminal : Terminal.Ghosts T) where
   -- a run without its sheet, how much it wrote, and what
-  apart : {A : Type 0} (t : Interaction A) (s s' : StepWorld H T) (p : List Event) (x : A) → s'.used ≤ length s.sheet → Traces (IsRecorded by_host by_terminal) t s p x s' → Traces (IsAnswered by_host by_terminal) t (world s) p x (world s') × (s'.used ≡ s.used + length p) × (s'.sheet ≡ take s.used s.sheet ++ journal p ++ drop (s.used + length p) s.sheet)
+  apart : {A : Type 0} (t : Interaction A) (s s' : StepWorld H T) (p : List Event) (x : A) → s'.used ≤ length s.sheet → Traces (IsRecorded by_host by_terminal) t s p x s' → Traces (IsAnswered by_host by_terminal) t (world_in s) p x (world_in s') × (s'.used ≡ s.used + length p) × (s'.sheet ≡ take s.used s.sheet ++ journal p ++ drop (s.used + length p) s.sheet)
   apart (done y) s s' p x l h = rw (h.0, h.2) ((refl, h.1, refl), omega arith, grind (arith, common_steps))
   apart (ask c k) s s' p x l h =
       let m = h.1 in
@@ -31,18 +30,17 @@ module _ {H T : Type 0} (by_host : Host.Ghosts H) (by_terminal : Terminal.Ghosts
       let rest = apart (k h.0) m s' h.2 x (omega arith) h.5 in
       let count : s'.used ≡ s.used + suc (length h.2) = omega (arith, rest.1, h.4.2) in
       rw h.3 (
-        (h.0, world m, h.2, refl, h.4.0, rest.0),
+        (h.0, world_in m, h.2, refl, h.4.0, rest.0),
         count,
         rest.2 ∙ rw (h.4.1, h.4.2) (written_next s.sheet (journal h.2) s.used (length h.2) (record_of c h.0) (omega (arith, count))),
       )
 
 module _ {H T : Type 0} {by_host : Host.Ghosts H} {by_terminal : Terminal.Ghosts T} where
   -- a run through what is lent from an empty sheet on, at what the lenders hold after it
-  pub conducted : {A : Type 0} {t : Interaction A} {n : ℕ} {o o' : Step H T} {x y : A} {h : H} {m : T} {xs : List Record} → o.used ≡ 0 → n ≤ length o.sheet.now → y ≡ x → h ≡ o'.host.now → m ≡ o'.terminal.now → xs ≡ o'.sheet.now → Performs by_host by_terminal n t o x o' → Conducts by_host by_terminal t (world (step_world o)) o.sheet.now y o'.used (record { host = h; terminal = m }) xs
+  pub conducted : {A : Type 0} {t : Interaction A} {n : ℕ} {o o' : Step H T} {x y : A} {h : H} {m : T} {xs : List Record} → o.used ≡ 0 → n ≤ length o.sheet.now → y ≡ x → h ≡ o'.host.now → m ≡ o'.terminal.now → xs ≡ o'.sheet.now → Performs by_host by_terminal n t o x o' → Conducts by_host by_terminal t (world_in (step_world o)) o.sheet.now y o'.used (record { host = h; terminal = m }) xs
   conducted {t = t} {o = o} {o' = o'} {x = x} z few ey eh em ex r =
-      let p = r.ran.trace in
-      let run = apart by_host by_terminal t (step_world o) (step_world o') p x (omega (arith, r.used)) r.ran.traces in
-      rw (ey, eh, em, ex) (record { trace = p; traces = run.0; count = omega (arith, run.1); sheet = simp (z, zero-add) at run.2 })
+      let run = apart by_host by_terminal t (step_world o) (step_world o') r.trace x (omega (arith, r.used)) r.traces in
+      rw (ey, eh, em, ex) (record { trace = r.trace; traces = run.0; count = omega (arith, run.1); sheet = simp (z, zero-add) at run.2 })
 
   -- what follows a run without a call
   pub then_done : {A B : Type 0} (t : Interaction A) (f : A → B) {w w' : World H T} {xs ys : List Record} {n : ℕ} {x : A} {y : B} → y ≡ f x → Conducts by_host by_terminal t w xs x n w' ys → Conducts by_host by_terminal (bind t (λ z. done (f z))) w xs y n w' ys

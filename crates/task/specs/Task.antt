@@ -7,6 +7,7 @@ use Rattle.host.specs.declared.command.Command.{Command}
 use Rattle.host.specs.declared.state.ProcessEnd.{ProcessEnd}
 use Rattle.host.specs.declared.state.CommandState.{CommandState}
 use Rattle.host.specs.declared.state.CommandState.TheVariants.{Pending, Running, Finished}
+use Rattle.host.specs.Books.{Roster, no_child, one_child}
 use Rattle.host.specs.Command.{wants_grant}
 use Rattle.host.specs.State.{is_running, kept_run}
 use Rattle.host.specs.Calls as Calls
@@ -323,9 +324,9 @@ abbrev pub MaySetTimer : Control → Outcome → Type 0
 MaySetTimer c o = is_graced o ≡ true → sets_timer c ≡ true
 
 -- the children of a state: the one that runs, if one does
-abbrev pub children : CommandState → List ℕ
-children (Running child began) = child ∷ []
-children s = []
+abbrev pub children : CommandState → Roster
+children (Running child began) = one_child child
+children s = no_child
 
 -- a grant is held only while a child runs
 abbrev pub GrantMeansRunning : TaskView → Type 0

@@ -4,11 +4,11 @@ use Rattle.std.specs.List.{count_by, find, fold}
 use Rattle.std.specs.Option.{is_none, option_and_then, option_flatten, option_map}
 use Rattle.tickets.specs.declared.flag.Mark.{Mark}
 use Rattle.tickets.specs.declared.flag.Mark.TheVariants.{Unheld, Held, Raised}
-use Rattle.tickets.specs.declared.flag.Ticket.{Ticket}
+use Rattle.tickets.specs.declared.flag.Entry.{Entry}
 
 -- a place: a ticket, or none where it is free
 abbrev pub Place : Type 0
-Place = Option Ticket
+Place = Option Entry
 
 -- the places, the first first
 abbrev pub Table : Type 0
@@ -21,7 +21,7 @@ pub record TicketsView : Type 0 where
 
 -- the place of a ticket with this serial and mark
 abbrev pub place_with : ℕ → Mark → Place
-place_with serial mark = Some (record { serial = serial; mark = mark })
+place_with ticket mark = Some (record { ticket = ticket; mark = mark })
 
 -- MARKS
 
@@ -52,12 +52,12 @@ is_free e = is_none e
 -- the ticket t waits there
 abbrev pub waits : ℕ → Place → Bool
 waits t None = false
-waits t (Some k) = is_waiting k.mark && t == k.serial
+waits t (Some k) = is_waiting k.mark && t == k.ticket
 
 -- the ticket t has its place there
 abbrev pub stands : ℕ → Place → Bool
 stands t None = false
-stands t (Some k) = t == k.serial
+stands t (Some k) = t == k.ticket
 
 -- the place of the ticket t, so marked, once t is raised: one that nobody holds leaves its place
 abbrev pub place_after_raise : ℕ → Mark → Place
@@ -66,7 +66,7 @@ place_after_raise t _ = place_with t Raised
 
 -- a place once its ticket is raised
 abbrev pub raise_place : Place → Place
-raise_place e = option_and_then (λ k. place_after_raise k.serial k.mark) e
+raise_place e = option_and_then (λ k. place_after_raise k.ticket k.mark) e
 
 -- TABLES
 

@@ -3,7 +3,7 @@ use Rattle.host.specs.declared.state.CommandState.{CommandState}
 use Rattle.host.specs.Interaction.{bind, call, done}
 use Rattle.task.specs.Performs.{task_of}
 use Rattle.task.specs.Task as Tree
-use Rattle.task.proofs.Performing.{still_at, at_value, and_then}
+use Rattle.task.proofs.Performing.{still_at, at_value, and_then, one_call}
 use Rattle.task.proofs.Reporting.{telling}
 use Rattle.task.proofs.step.Step.signal_child.Goals as goal
 
@@ -15,5 +15,5 @@ returns g c =
     at_value (λ (state : CommandState). Tree.signal_in state c.args.signal c.args.sent t) (sym c.in-Running.is)
     (at_value course c.sent_as.ensures
     (and_then (Tree.report (part c.sent_as.result)) _
-    (telling (part c.sent_as.result) (and_then (call _) _ c.signal-signalled.ensures.performs (still_at {x = (task_of c.signal-signalled.new.self, c.signal-signalled.result)} (rw c.signal-signalled.ensures.task))) c.report.ensures.told)
+    (telling (part c.sent_as.result) (and_then (call _) _ (one_call c.signal-signalled.ensures) (still_at {x = (task_of c.signal-signalled.new.self, c.signal-signalled.result)} (rw c.signal-signalled.ensures.task))) c.report.ensures.told)
     (still_at (rw (c.report.ensures.task, c.unless_faulted.ensures)))))
