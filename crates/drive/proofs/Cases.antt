@@ -50,7 +50,7 @@ use Rattle.tickets.specs.declared.flag.Mark.TheVariants.{Held}
 use Rattle.tickets.specs.Tickets.{mark_of, free_places, is_taken, give}
 use Rattle.tickets.specs.Weights.{weight, one_at}
 use Rattle.tickets.proofs.Tables.{found-new, raise-held}
-use Rattle.supervisor.specs.Steps.{Moment, world_at, step_end, Steps}
+use Rattle.supervisor.specs.Steps.{Moment, world_at, step_end, StepsOrRefuses}
 use Rattle.drive.specs.declared.calls.Call.TheVariants as Calls
 use Rattle.drive.specs.declared.calls.Done.{Done}
 use Rattle.drive.specs.Answers.{step_done}
@@ -113,7 +113,7 @@ module _ {H T : Type 0} (by_host : Host.Ghosts H) (by_terminal : Terminal.Ghosts
   step_refused : (kind : StepKind) (now : ℕ) (a : Moment H T) (d : Done) (b : Moment H T) → Makes by_host by_terminal (Calls.Step kind now) a d b → (x : Refusal) → may_step now (length a.sheet) (job_at a) ≡ Err x → d.answer ≡ Err x
   step_refused kind now a d b made x e = by made.answer made.step made.does
     where
-      by : (r : Result Stepped Refusal) → Steps by_host by_terminal (tree_of kind (by_terminal.book a.terminal).own) now a r b → d ≡ step_done r b.sheet → d.answer ≡ Err x
+      by : (r : Result Stepped Refusal) → StepsOrRefuses by_host by_terminal (tree_of kind (by_terminal.book a.terminal).own) now a r b → d ≡ step_done r b.sheet → d.answer ≡ Err x
       by (Err r) h z =
           let same : r ≡ x = cc (h.0, e) in
           rw (z, same) refl
@@ -122,7 +122,7 @@ module _ {H T : Type 0} (by_host : Host.Ghosts H) (by_terminal : Terminal.Ghosts
   step_passes : (kind : StepKind) (now : ℕ) (a : Moment H T) (d : Done) (b : Moment H T) → Makes by_host by_terminal (Calls.Step kind now) a d b → may_step now (length a.sheet) (job_at a) ≡ Ok tt → is_ok d.answer ≡ true
   step_passes kind now a d b made e = by made.answer made.step made.does
     where
-      by : (r : Result Stepped Refusal) → Steps by_host by_terminal (tree_of kind (by_terminal.book a.terminal).own) now a r b → d ≡ step_done r b.sheet → is_ok d.answer ≡ true
+      by : (r : Result Stepped Refusal) → StepsOrRefuses by_host by_terminal (tree_of kind (by_terminal.book a.terminal).own) now a r b → d ≡ step_done r b.sheet → is_ok d.answer ≡ true
       by (Err r) h z = absurd (cc (h.0, e))
       by (Ok s) h z = rw z refl
 
@@ -145,7 +145,7 @@ module _ {H T : Type 0} (by_host : Host.Ghosts H) (by_terminal : Terminal.Ghosts
   control_taken : (now : ℕ) (a : Moment H T) (d : Done) (b : Moment H T) → is_ok d.answer ≡ true → Makes by_host by_terminal (Calls.Step Kinds.Control now) a d b → TakesWhenDue now (job_at a) (job_at b)
   control_taken now a d b k made = by made.answer made.step made.does
     where
-      by : (r : Result Stepped Refusal) → Steps by_host by_terminal control_step now a r b → d ≡ step_done r b.sheet → TakesWhenDue now (job_at a) (job_at b)
+      by : (r : Result Stepped Refusal) → StepsOrRefuses by_host by_terminal control_step now a r b → d ≡ step_done r b.sheet → TakesWhenDue now (job_at a) (job_at b)
       by (Ok s) h e = (control_accepted now a b s (a.job.in_order (not_closed now (length a.sheet) (job_at a) h.0)) h.1).0
       by (Err r) h e = absurd (grind (arith, k, e))
 
@@ -157,7 +157,7 @@ module _ {H T : Type 0} (by_host : Host.Ghosts H) (by_terminal : Terminal.Ghosts
       restart : is_some (memory (job_at a).mailbox.timer) ≡ true
       restart = ap (λ k. is_some (memory k)) p.0 ∙ ap (λ end. is_some (memory_of end t.ticket)) p.1
 
-      by : (r : Result Stepped Refusal) → Steps by_host by_terminal child_step now a r b → d ≡ step_done r b.sheet → d.tally.tried ≡ 1
+      by : (r : Result Stepped Refusal) → StepsOrRefuses by_host by_terminal child_step now a r b → d ≡ step_done r b.sheet → d.tally.tried ≡ 1
       by (Err r) h z = absurd (grind (arith, common_steps, l, z))
       by (Ok s) h z =
           let v = job_at a in
@@ -187,7 +187,7 @@ module _ {H T : Type 0} (by_host : Host.Ghosts H) (by_terminal : Terminal.Ghosts
   waits : (ticket now : ℕ) (a : Moment H T) (d : Done) (m : Moment H T) (e : Done) (b : Moment H T) → (job_at a).closed ≡ false → (job_at a).mailbox.timer ≡ None → (job_at a).mailbox.queues.urgent ≡ [] → (job_at a).mailbox.queues.high ≡ [] → Makes by_host by_terminal (Calls.Send Sends.ToWait) a d m → d.answer ≡ Ok ticket → Makes by_host by_terminal (Calls.Step Kinds.Control now) m e b → is_ok e.answer ≡ true → look ticket (job_at b) ≡ Ok (not (is_running (job_at a).task.state))
   waits ticket now a d m e b free none urgent high sent answer made k = by made.answer made.step made.does
     where
-      by : (r : Result Stepped Refusal) → Steps by_host by_terminal control_step now m r b → e ≡ step_done r b.sheet → look ticket (job_at b) ≡ Ok (not (is_running (job_at a).task.state))
+      by : (r : Result Stepped Refusal) → StepsOrRefuses by_host by_terminal control_step now m r b → e ≡ step_done r b.sheet → look ticket (job_at b) ≡ Ok (not (is_running (job_at a).task.state))
       by (Ok s) h z = waited (IsAnswered by_host by_terminal) now ticket (job_at a) (job_at m) d.answer free (λ s. (a.job.in_order free).later s) none urgent high sent.answers.answer answer _ _ h.1.conducts.trace (step_end b.job s) h.1.conducts.traces
       by (Err r) h z = absurd (grind (arith, k, z))
 
@@ -202,7 +202,7 @@ module _ {H T : Type 0} (by_host : Host.Ghosts H) (by_terminal : Terminal.Ghosts
       child_orders : Makes by_host by_terminal (Calls.Step Kinds.Child later) m e b → e.tally.ordered ≡ 0
       child_orders made = by made.answer made.step made.does
         where
-          by : (r : Result Stepped Refusal) → Steps by_host by_terminal child_step later m r b → e ≡ step_done r b.sheet → e.tally.ordered ≡ 0
+          by : (r : Result Stepped Refusal) → StepsOrRefuses by_host by_terminal child_step later m r b → e ≡ step_done r b.sheet → e.tally.ordered ≡ 0
           by (Err r) h z = rw z refl
           by (Ok s) h z =
               let v = job_at m in
@@ -213,7 +213,7 @@ module _ {H T : Type 0} (by_host : Host.Ghosts H) (by_terminal : Terminal.Ghosts
   past : (t : Timer) (now : ℕ) (a : Moment H T) (d : Done) (b : Moment H T) → RestartPends t (job_at a) → t.deadline ≤ now → is_running (job_at a).task.state ≡ true → is_ok d.answer ≡ true → count_by is_failure (records d b) ≡ 0 → Makes by_host by_terminal (Calls.Step Kinds.Control now) a d b → map (λ r. r.call) (filter decides (records d b)) ≡ Kill ∷ Wait ∷ Spawn ∷ []
   past t now a d b p l running k none made = by made.answer made.step made.does
     where
-      by : (r : Result Stepped Refusal) → Steps by_host by_terminal control_step now a r b → d ≡ step_done r b.sheet → map (λ r. r.call) (filter decides (records d b)) ≡ Kill ∷ Wait ∷ Spawn ∷ []
+      by : (r : Result Stepped Refusal) → StepsOrRefuses by_host by_terminal control_step now a r b → d ≡ step_done r b.sheet → map (λ r. r.call) (filter decides (records d b)) ≡ Kill ∷ Wait ∷ Spawn ∷ []
       by (Err r) h z = absurd (grind (arith, k, z))
       by (Ok s) h z =
           let v = job_at a in

@@ -24,7 +24,7 @@ use Rattle.supervisor.specs.Job as Spec
 use Rattle.supervisor.specs.Mailbox as Mail
 use Rattle.supervisor.specs.Mailbox.{TakeResult, take, may_send}
 use Rattle.supervisor.specs.Sends.{priority_of, controls_of}
-use Rattle.supervisor.specs.Steps.{Moment, moment, job_view, step_end, Steps}
+use Rattle.supervisor.specs.Steps.{Moment, moment, job_view, step_end, StepsOrRefuses}
 use Rattle.supervisor.specs.Timers.{memory}
 use Rattle.drive.specs.declared.calls.Call.{Call}
 use Rattle.drive.specs.declared.calls.Call.TheVariants as Calls
@@ -128,7 +128,7 @@ module _ {H T : Type 0} (by_host : Host.Ghosts H) (by_terminal : Terminal.Ghosts
       own : ℕ
       own = (by_terminal.book a.terminal).own
 
-      by : (r : Result Stepped Refusal) → Steps by_host by_terminal (tree_of kind own) time a r b → d ≡ step_done r b.sheet → IsFair by_host by_terminal (Calls.Step kind time) a d b
+      by : (r : Result Stepped Refusal) → StepsOrRefuses by_host by_terminal (tree_of kind own) time a r b → d ≡ step_done r b.sheet → IsFair by_host by_terminal (Calls.Step kind time) a d b
       by (Err r) h e = record { issued = grind (arith, h.1); taken = grind (arith, h.1, e); spawned = makes-spawns by_host by_terminal (Calls.Step kind time) a d b made; tickets = λ s l _. rw h.1 (goes_again (mark_of s (job_view a.job).mailbox.tickets.table)); refused = rw e h.1 }
       by (Ok s) h e =
           let run = h.1.conducts in

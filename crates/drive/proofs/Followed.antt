@@ -13,7 +13,7 @@ use Rattle.supervisor.specs.declared.answers.Stepped.{Stepped}
 use Rattle.supervisor.specs.declared.errors.Refusal.{Refusal}
 use Rattle.supervisor.specs.Job as Job
 use Rattle.supervisor.specs.Job.{JobView, tree_of}
-use Rattle.supervisor.specs.Steps.{Moment, job_view, world_at, step_end, Steps}
+use Rattle.supervisor.specs.Steps.{Moment, job_view, world_at, step_end, StepsOrRefuses}
 use Rattle.supervisor.proofs.Steps.{not_closed}
 use Rattle.drive.specs.declared.calls.Call.{Call}
 use Rattle.drive.specs.declared.calls.Call.TheVariants as Calls
@@ -50,7 +50,7 @@ module _ {H T : Type 0} (by_host : Host.Ghosts H) (by_terminal : Terminal.Ghosts
   step_comes : (am : Amendments) (kind : StepKind) (now : ℕ) (a : Moment H T) (o : Original.Original) (d : Done) (b : Moment H T) → Agrees (job_view a.job) o → IsUntouched by_host by_terminal am (Calls.Step kind now) a d b → Makes by_host by_terminal (Calls.Step kind now) a d b → Comes am (Calls.Step kind now) a o d b
   step_comes am kind now a o d b agrees untouched made = by made.answer made.step made.does
     where
-      by : (r : Result Stepped Refusal) → Steps by_host by_terminal (tree_of kind (own by_host by_terminal a)) now a r b → d ≡ step_done r b.sheet → Comes am (Calls.Step kind now) a o d b
+      by : (r : Result Stepped Refusal) → StepsOrRefuses by_host by_terminal (tree_of kind (own by_host by_terminal a)) now a r b → d ≡ step_done r b.sheet → Comes am (Calls.Step kind now) a o d b
       by (Err r) h e = rw (e, h.1) (o, refl, agrees)
       by (Ok s) h e =
           let v = job_view a.job in

@@ -11,7 +11,7 @@ use Rattle.drive.specs.declared.calls.Done.{Done}
 use Rattle.drive.specs.declared.calls.Tally.{Tally}
 use Rattle.drive.specs.Calls.{Makes}
 use Rattle.drive.specs.Turns.{Turn, Linked, answers_of, tried_in, ordered_in}
-use Rattle.drive.specs.Runs.{Completes}
+use Rattle.drive.specs.Runs.{Drives}
 use Rattle.drive.proofs.Cases.{cases}
 use Rattle.drive.proofs.Followed.{originals}
 use Rattle.drive.proofs.Laws.{laws, restarts}
@@ -67,7 +67,7 @@ module _ {H T : Type 0} (by_host : Host.Ghosts H) (by_terminal : Terminal.Ghosts
       }
 
   -- all calls were made
-  pub all_made : {calls : List Call} {i : ℕ} {a : Moment H T} {xs : List (Result ℕ Refusal)} {tally : Tally} {b : Moment H T} {ys : List (Result ℕ Refusal)} → i ≡ length calls → SoFar calls i a xs tally.tried tally.ordered b ys → Completes by_host by_terminal calls a xs tally b ys
+  pub all_made : {calls : List Call} {i : ℕ} {a : Moment H T} {xs : List (Result ℕ Refusal)} {tally : Tally} {b : Moment H T} {ys : List (Result ℕ Refusal)} → i ≡ length calls → SoFar calls i a xs tally.tried tally.ordered b ys → Drives by_host by_terminal calls a xs tally b ys
   all_made {calls} {i} {a} {xs} {tally} {b} {ys} e h =
       let all : Linked (Makes by_host by_terminal) calls a h.turns b = rw (take_all i calls (omega arith)) at h.linked in
       record {

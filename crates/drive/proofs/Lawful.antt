@@ -19,7 +19,7 @@ use Rattle.supervisor.specs.Job.{JobView, send, children_of, runs, tree_of, may_
 use Rattle.supervisor.specs.Mailbox as Mail
 use Rattle.supervisor.specs.Mailbox.{MailboxView, admit_all, admit, may_send}
 use Rattle.supervisor.specs.Sends.{priority_of, controls_of}
-use Rattle.supervisor.specs.Steps.{Moment, job_view, world_at, step_end, Steps}
+use Rattle.supervisor.specs.Steps.{Moment, job_view, world_at, step_end, StepsOrRefuses}
 use Rattle.supervisor.specs.Timers.{owed_starts}
 use Rattle.supervisor.proofs.Fits.{StepFits, step_traced}
 use Rattle.supervisor.proofs.Steps.{not_closed}
@@ -90,7 +90,7 @@ module _ {H T : Type 0} (by_host : Host.Ghosts H) (by_terminal : Terminal.Ghosts
       v : JobView
       v = job_view a.job
 
-      by : (r : Result Stepped Refusal) → Steps by_host by_terminal (tree_of kind own) time a r b → d ≡ step_done r b.sheet → Goes a d b
+      by : (r : Result Stepped Refusal) → StepsOrRefuses by_host by_terminal (tree_of kind own) time a r b → d ≡ step_done r b.sheet → Goes a d b
       by (Err r) h e = record { books = λ f. rw h.1 f; starts = rw (h.1, e) (omega arith) }
       by (Ok s) h e =
           let run = h.1.conducts in

@@ -14,7 +14,7 @@ use Rattle.supervisor.specs.Job.{children_of, control_step}
 use Rattle.supervisor.specs.Laws.{Pends}
 use Rattle.supervisor.specs.Mailbox.{MailboxView}
 use Rattle.supervisor.specs.Sound.{IsInOrder}
-use Rattle.supervisor.specs.Steps.{Moment, Steps}
+use Rattle.supervisor.specs.Steps.{Moment, StepsOrRefuses}
 use Rattle.supervisor.specs.Timers.{memory, owed_starts}
 use Rattle.supervisor.proofs.Graces.{control_accepted}
 use Rattle.supervisor.proofs.Steps.{not_closed}
@@ -75,7 +75,7 @@ module _ {H T : Type 0} (by_host : Host.Ghosts H) (by_terminal : Terminal.Ghosts
   none_owed : (t : Timer) (time : ℕ) (a : Moment H T) (d : Done) (b : Moment H T) → Pends t (job_at a) → t.deadline ≤ time → is_ok d.answer ≡ true → Makes by_host by_terminal (Step Control time) a d b → owed_starts (job_at b).mailbox.timer ≡ 0
   none_owed t time a d b p l k made = by made.answer made.step made.does
     where
-      by : (r : Result Stepped Refusal) → Steps by_host by_terminal control_step time a r b → d ≡ step_done r b.sheet → owed_starts (job_at b).mailbox.timer ≡ 0
+      by : (r : Result Stepped Refusal) → StepsOrRefuses by_host by_terminal control_step time a r b → d ≡ step_done r b.sheet → owed_starts (job_at b).mailbox.timer ≡ 0
       by (Ok s) h e =
           let order = a.job.in_order (not_closed time (length a.sheet) (job_at a) h.0) in
           ap owed_starts ((control_accepted time a b s order h.1).0.due t p l).0

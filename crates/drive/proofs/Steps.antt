@@ -9,7 +9,7 @@ use Rattle.host.specs.Books.{spawns_in}
 use Rattle.supervisor.specs.declared.answers.Stepped.{Stepped}
 use Rattle.supervisor.specs.declared.errors.Refusal.{Refusal}
 use Rattle.supervisor.specs.Job.{JobView, StepEnd, tree_of}
-use Rattle.supervisor.specs.Steps.{Moment, Steps}
+use Rattle.supervisor.specs.Steps.{Moment, StepsOrRefuses}
 use Rattle.task.proofs.Sheets.{journal-length}
 use Rattle.drive.specs.declared.calls.Call.{Call}
 use Rattle.drive.specs.declared.calls.Call.TheVariants.{Step}
@@ -20,18 +20,18 @@ use Rattle.drive.proofs.Counts.{journal-spawns, along_spawns}
 
 module _ {H T : Type 0} (by_host : Host.Ghosts H) (by_terminal : Terminal.Ghosts T) (tree : ℕ → JobView → Interaction StepEnd) (time : ℕ) (a b : Moment H T) where
   -- the starts that a step tried are the spawns of its trace
-  pub tried-spawns : (s : Stepped) (h : Steps by_host by_terminal tree time a (Ok s) b) → spawn_records (take s.records b.sheet) ≡ spawns_in h.1.conducts.trace
+  pub tried-spawns : (s : Stepped) (h : StepsOrRefuses by_host by_terminal tree time a (Ok s) b) → spawn_records (take s.records b.sheet) ≡ spawns_in h.1.conducts.trace
   tried-spawns s h =
       let p = h.1.conducts.trace in
       cc (take_at (journal p) (drop (length p) a.sheet) (length p) (journal-length p), journal-spawns p, h.1.conducts.count, h.1.conducts.sheet)
 
   -- at most one of each
-  step_few : (r : Result Stepped Refusal) → Steps by_host by_terminal tree time a r b → ((step_done r b.sheet).tally.tried ≤ 1) × ((step_done r b.sheet).tally.ordered ≤ 1)
+  step_few : (r : Result Stepped Refusal) → StepsOrRefuses by_host by_terminal tree time a r b → ((step_done r b.sheet).tally.tried ≤ 1) × ((step_done r b.sheet).tally.ordered ≤ 1)
   step_few (Ok s) h = grind (arith, tried-spawns s h, h.1.starts)
   step_few (Err r) h = grind arith
 
   -- and the host's count of spawns grew by the starts tried
-  step-spawns : (r : Result Stepped Refusal) → Steps by_host by_terminal tree time a r b → (by_host.book b.host).spawns % 2 ^ 64 ≡ ((by_host.book a.host).spawns + (step_done r b.sheet).tally.tried) % 2 ^ 64
+  step-spawns : (r : Result Stepped Refusal) → StepsOrRefuses by_host by_terminal tree time a r b → (by_host.book b.host).spawns % 2 ^ 64 ≡ ((by_host.book a.host).spawns + (step_done r b.sheet).tally.tried) % 2 ^ 64
   step-spawns (Ok s) h = grind (arith, h.1.host_book, along_spawns (by_host.book a.host) h.1.conducts.trace, tried-spawns s h)
   step-spawns (Err r) h = grind arith
 

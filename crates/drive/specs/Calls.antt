@@ -9,7 +9,7 @@ use Rattle.supervisor.specs.declared.errors.Refusal.{Refusal}
 use Rattle.supervisor.specs.declared.errors.Refusal.TheVariants.{Unknown}
 use Rattle.supervisor.specs.declared.answers.Stepped.{Stepped}
 use Rattle.supervisor.specs.Job.{JobView, StepEnd, send, look, collect, pause, tree_of}
-use Rattle.supervisor.specs.Steps.{Answers, Moment, job_view, Steps}
+use Rattle.supervisor.specs.Steps.{Answers, Moment, job_view, StepsOrRefuses}
 use Rattle.drive.specs.declared.calls.Call.{Call}
 use Rattle.drive.specs.declared.calls.Call.TheVariants.{Send, Step, Pause, Look, Collect}
 use Rattle.drive.specs.declared.calls.Done.{Done}
@@ -48,7 +48,7 @@ module _ {H T : Type 0} (by_host : Host.Ghosts H) (by_terminal : Terminal.Ghosts
   -- a step, by its own contract
   pub record MakesStep (tree : ℕ → JobView → Interaction StepEnd) (time : ℕ) (a : Moment H T) (d : Done) (b : Moment H T) : Type 0 where
     pub answer : Result Stepped Refusal
-    pub step : Steps by_host by_terminal tree time a answer b
+    pub step : StepsOrRefuses by_host by_terminal tree time a answer b
     pub does : d ≡ step_done answer b.sheet
 
   -- the call c leads from the moment a to the moment b and does d

@@ -103,7 +103,7 @@ pub fn drive<H: Host, T: Terminal>(
     sheet: &mut [Record],
     answers: &mut [Result<u32, Refusal>],
 ) -> Result<Tally, Refusal>
-    ensures { Runs.Drives H.Host T.Terminal calls.now (moment job.old host.old terminal.old sheet.old) answers.old result (moment job.new host.new terminal.new sheet.new) answers.new }
+    ensures { Runs.DrivesOrRefuses H.Host T.Terminal calls.now (moment job.old host.old terminal.old sheet.old) answers.old result (moment job.new host.new terminal.new sheet.new) answers.new }
 {
     if answers.len() < calls.len() {
         return Err(Refusal::Sheet);

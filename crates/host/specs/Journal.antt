@@ -1,5 +1,6 @@
 -- The journal: the record of a call, and the numbers that records are written with.
 use Rattle.std.specs.Prelude.{ℕ, ◌+◌, Bool, true, false, ◌&&◌, ◌||◌, List, map, ℤ, pos, neg_ℤ, Ok, Err, Option, Result, ⊤}
+use Rattle.std.specs.List.{count_by}
 use Rattle.std.specs.Option.{option_map_or}
 use Rattle.host.specs.declared.fault.Fault.{Fault}
 use Rattle.host.specs.declared.state.ProcessEnd.TheVariants.{Exited, Signalled, Continued}
@@ -119,3 +120,7 @@ is_failure r = is_force r.call && is_fault r.answer
 -- a poll that reported an end
 abbrev pub reports_end : Record → Bool
 reports_end r = is_poll r.call && is_end r.answer
+
+-- the spawns among records
+abbrev pub spawns_among : List Record → ℕ
+spawns_among rs = count_by (λ r. is_spawn r.call) rs

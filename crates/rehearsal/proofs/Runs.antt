@@ -12,7 +12,7 @@ use Rattle.task.proofs.Sheets.{records_are}
 use Rattle.supervisor.specs.declared.errors.Refusal.{Refusal}
 use Rattle.supervisor.specs.declared.answers.Stepped.{Stepped}
 use Rattle.supervisor.specs.Job.{JobView, StepEnd, may_step, send, tree_of}
-use Rattle.supervisor.specs.Steps.{Moment, job_view, world_at, step_end, Steps}
+use Rattle.supervisor.specs.Steps.{Moment, job_view, world_at, step_end, StepsOrRefuses}
 use Rattle.drive.specs.declared.calls.Call as Calls
 use Rattle.drive.specs.declared.calls.Call.TheVariants.{Send, Step, Pause, Look, Collect}
 use Rattle.drive.specs.declared.calls.Done.{Done}
@@ -59,7 +59,7 @@ module _ (a b : Moment SimulatedHost AbsentTerminal) where
   quietly : (f : JobView → JobView × Result ℕ Refusal) (d : Done) → AnswersAlone by_simulated by_absent f a d b → play_end d (rehearsal_at b) ≡ play_quietly (state_of (rehearsal_at a)) (f (job_view a.job))
   quietly f d q = rw (← q.answers.answer, q.host, q.terminal, q.does) refl
 
-  step_made : (tree : ℕ → JobView → Interaction StepEnd) (time : ℕ) (r : Result Stepped Refusal) → length a.sheet ≡ 8 → Steps by_simulated by_absent tree time a r b → play_end (step_done r b.sheet) (rehearsal_at b) ≡ play_step (state_of (rehearsal_at a)) (tree time (job_view a.job)) (may_step time 8 (job_view a.job))
+  step_made : (tree : ℕ → JobView → Interaction StepEnd) (time : ℕ) (r : Result Stepped Refusal) → length a.sheet ≡ 8 → StepsOrRefuses by_simulated by_absent tree time a r b → play_end (step_done r b.sheet) (rehearsal_at b) ≡ play_step (state_of (rehearsal_at a)) (tree time (job_view a.job)) (may_step time 8 (job_view a.job))
   step_made tree time (Err refusal) places h = rw (rw places at h.0, h.1) refl
   step_made tree time (Ok s) places h =
       let made = h.1.conducts in

@@ -94,10 +94,10 @@ again_in (Some t) m e h = by t.end
     by Stop = ended_in m h
     by Restart = rw (raise_none t.ticket (raise_at_end m).tickets.table (raised_once t m e h)) (ended_in m h)
 
-pub after_poll_in : (o : PollOutcome) (m : MailboxView) → IsInOrder [] m → IsInOrder [] (settle_poll o m)
-after_poll_in Over m h = ended_in m h
-after_poll_in Renewed m h = again_in m.timer m refl h
-after_poll_in o m h = h
+pub settle_poll_in : (o : PollOutcome) (m : MailboxView) → IsInOrder [] m → IsInOrder [] (settle_poll o m)
+settle_poll_in Over m h = ended_in m h
+settle_poll_in Renewed m h = again_in m.timer m refl h
+settle_poll_in o m h = h
 
 -- a ticket in hand finds a place in the ending list
 pub ending_room : (t : ℕ) (m : MailboxView) → IsInOrder (t ∷ []) m → length m.ending < 256

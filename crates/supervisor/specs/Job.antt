@@ -1,8 +1,10 @@
 -- The job: what it holds, how it is made, its sends, looks and collects, its pauses, and its steps.
 use Rattle.std.specs.Prelude.{ℕ, ◌^◌, Bool, true, false, if◌then◌else◌, not, ◌&&◌, ◌||◌, List, [], ◌∷◌, ◌++◌, length, is_some, Some, None, Ok, Err, Option, Result, ◌==◌, nat_le, nat_lt, ⊤}
+use Rattle.std.specs.Result.{result_and}
 use Rattle.host.specs.declared.command.SpawnOptions.{SpawnOptions}
 use Rattle.host.specs.declared.command.Command.{Command}
 use Rattle.host.specs.declared.state.CommandState.TheVariants.{Pending}
+use Rattle.host.specs.Books.{Roster, no_child}
 use Rattle.host.specs.Command.{options_of}
 use Rattle.host.specs.State.{is_running}
 use Rattle.host.specs.Interaction.{Interaction, done, bind}
@@ -67,8 +69,8 @@ abbrev pub runs : JobView → Bool
 runs v = not v.closed && is_running v.task.state
 
 -- the children of a job: the one that runs
-abbrev pub children_of : JobView → List ℕ
-children_of v = if v.closed then [] else children v.task.state
+abbrev pub children_of : JobView → Roster
+children_of v = if v.closed then no_child else children v.task.state
 
 -- SENDS
 
@@ -124,13 +126,18 @@ pause signal v = pause_if (may_pause signal v) signal v
 
 -- STEPS
 
+abbrev pub check_open : JobView → Result ⊤ Refusal
+check_open v = if v.closed then Err Closed else Ok tt
+
+abbrev pub check_sheet : ℕ → Result ⊤ Refusal
+check_sheet places = if nat_lt places 8 then Err Sheet else Ok tt
+
+abbrev pub check_time : ℕ → JobView → Result ⊤ Refusal
+check_time time v = if nat_le v.clock time && nat_le time (2 ^ 62) then Ok tt else Err Clock
+
 -- a step at this time, with a sheet of so many places, may be made, or is refused
 abbrev pub may_step : ℕ → ℕ → JobView → Result ⊤ Refusal
-may_step time places v =
-    if v.closed then Err Closed
-    else if nat_lt places 8 then Err Sheet
-    else if nat_le v.clock time && nat_le time (2 ^ 62) then Ok tt
-    else Err Clock
+may_step time places v = result_and (check_open v) (result_and (check_sheet places) (check_time time v))
 
 -- what an accepted step ends with: the job, what was done, and whether a control that orders a start was taken from a queue
 pub record StepEnd : Type 0 where

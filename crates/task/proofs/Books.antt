@@ -8,7 +8,7 @@ use Rattle.host.specs.declared.journal.CallKind.{CallKind}
 use Rattle.host.specs.declared.journal.Record.{Record}
 use Rattle.host.specs.Calls.{Call, to_host, to_terminal, Reply, Event}
 use Rattle.host.specs.Books.{Roster, HostBook, TerminalBook, roster_after, host_after, grants_after, terminal_after, host_along, terminal_along}
-use Rattle.host.specs.Journal.{host_record, terminal_record, journal, is_spawn, is_decisive, is_failure, reports_end}
+use Rattle.host.specs.Journal.{host_record, terminal_record, journal, is_spawn, is_decisive, is_failure, reports_end, spawns_among}
 
 -- the kills, waits and spawns in their order, and how many spawns, kills and waits that faulted, and polls that reported an end
 pub record Tally : Type 0 where
@@ -32,7 +32,7 @@ tally_after m r = record {
 abbrev pub tally_of : List Record → Tally
 tally_of rs = record {
   kinds = map (λ r. r.call) (filter is_decisive rs);
-  starts = count_by (λ r. is_spawn r.call) rs;
+  starts = spawns_among rs;
   failures = count_by is_failure rs;
   ends = count_by reports_end rs;
 }
