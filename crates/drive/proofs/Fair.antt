@@ -10,11 +10,9 @@ use Rattle.host.specs.declared.terminal.Terminal as Terminal
 use Rattle.host.specs.Interaction.{done, IsAnswered}
 use Rattle.tickets.specs.Tickets.{mark_of}
 use Rattle.task.specs.Messages.{orders}
-use Rattle.task.specs.Task as Tree
-use Rattle.task.specs.Task.{TaskView}
-use Rattle.task.proofs.Always as Every
-use Rattle.task.proofs.Always.{always_then, always_any, always_traced}
-use Rattle.task.proofs.Books.{Books, moved}
+use Rattle.task.proofs.Books.{Books}
+use Rattle.supervisor.proofs.Steps.{way_of}
+use Rattle.supervisor.proofs.Ways.{Way}
 use Rattle.supervisor.specs.declared.answers.StepKind.{StepKind}
 use Rattle.supervisor.specs.declared.answers.StepKind.TheVariants.{Control, Child, Pause}
 use Rattle.supervisor.specs.declared.errors.Refusal.{Refusal}
@@ -29,13 +27,15 @@ use Rattle.supervisor.specs.Timers.{memory}
 use Rattle.drive.specs.declared.calls.Call.{Call}
 use Rattle.drive.specs.declared.calls.Call.TheVariants as Calls
 use Rattle.drive.specs.declared.calls.Done.{Done}
-use Rattle.drive.specs.Calls.{Makes, AnswersAlone, known_ticket, pause_value, collect_value}
+use Rattle.drive.specs.declared.calls.Value.{Value}
+use Rattle.drive.specs.declared.calls.Value.TheVariants.{Ticket}
+use Rattle.drive.specs.Calls.{Makes, AnswersAlone, known_ticket, as_value, send_value, pause_value, collect_value}
 use Rattle.tickets.proofs.Tables.{goes_again}
 use Rattle.supervisor.specs.declared.answers.Stepped.{Stepped}
 use Rattle.drive.specs.Answers.{step_done}
 use Rattle.drive.proofs.Steps.{makes-spawns}
 use Rattle.drive.specs.Laws.{accepted_controls, collects, IsFair}
-use Rattle.drive.proofs.Mailboxes.{Moves, any, still_moves, carried_moves, after_poll_moves, send_moves, vacate_moves}
+use Rattle.drive.proofs.Mailboxes.{Moves, any, still_moves, carried_moves, settle_poll_moves, admit_all_moves, vacate_moves}
 
 -- STEPS
 
@@ -43,34 +43,29 @@ use Rattle.drive.proofs.Mailboxes.{Moves, any, still_moves, carried_moves, after
 abbrev Ends : JobView → StepEnd → Type 0
 Ends v s = Moves 0 0 (from_bool s.ordered) any v.mailbox s.view.mailbox
 
-step_always : (kind : StepKind) (own time : ℕ) (v : JobView) (b : Books) → Every.Always moved (λ _ s. Ends v s) b (tree_of kind own time v)
-step_always Control own time v b = by (take time v.mailbox) refl
-  where
-    by : (k : TakeResult) → take time v.mailbox ≡ k → Every.Always moved (λ _ s. Ends v s) b (carry_out k time v)
-    by None e = still_moves any v.mailbox v.mailbox refl refl
-    by (Some (r, n)) e = always_then moved (λ _ _. ⊤) (λ _ s. Ends v s) b (Tree.control r.message.control time v.task) (λ x. done (control_end time r n x)) (always_any moved (λ _ _. ⊤) (λ _ _. tt) b (Tree.control r.message.control time v.task)) (λ u x _. carried_moves time v.mailbox r n x.1 e)
-step_always Child own time v b =
-    let restart = is_some (memory v.mailbox.timer) in
-    always_then moved (λ _ _. ⊤) (λ _ s. Ends v s) b (Tree.poll_child restart time v.task) (λ x. done (poll_end time v x)) (always_any moved (λ _ _. ⊤) (λ _ _. tt) b (Tree.poll_child restart time v.task)) (λ u x _. after_poll_moves x.1 v.mailbox)
-step_always Pause own time v b = always_then moved (λ _ _. ⊤) (λ _ s. Ends v s) b (Tree.pause own v.task) (λ x. done (pause_end time v x)) (always_any moved (λ _ _. ⊤) (λ _ _. tt) b (Tree.pause own v.task)) (λ u x _. still_moves any v.mailbox v.mailbox refl refl)
+step_moves : (kind : StepKind) (time : ℕ) (v : JobView) (b : Books) (s : StepEnd) → Way time v kind b s → Ends v s
+step_moves Control time v b s (None, e, w) = rw w.1 (still_moves any v.mailbox v.mailbox refl refl)
+step_moves Control time v b s (Some (r, n), e, w) = rw w.2 (carried_moves time v.mailbox r n w.0.1 e)
+step_moves Child time v b s w = rw w.2 (settle_poll_moves w.0.1 v.mailbox)
+step_moves Pause time v b s w = rw w.2 (still_moves any v.mailbox v.mailbox refl refl)
 
 -- CALLS THAT ASK NOTHING OUTSIDE
 
 -- what such a call makes of a mailbox, by what it answers
-abbrev Keeps : Call → JobView → JobView × Result ℕ Refusal → Type 0
+abbrev Keeps : Call → JobView → JobView × Result Value Refusal → Type 0
 Keeps c v x = Moves (length (accepted_controls c v.closed x.1)) (count_by orders (accepted_controls c v.closed x.1)) 0 (λ s. not (collects c s)) v.mailbox x.0.mailbox
 
-send_keeps : (s : Send) (v : JobView) → Keeps (Calls.Send s) v (send s v)
+send_keeps : (s : Send) (v : JobView) → Keeps (Calls.Send s) v (send_value s v)
 send_keeps s v = by v.closed
   where
     out : Bool → JobView × Result ℕ Refusal
     out closed = if closed then (v, Ok 0) else Spec.after_send (Mail.send (priority_of s) (controls_of s) v.mailbox) v
 
-    admits : (r : Result ⊤ Refusal) → Moves (length (accepted_controls (Calls.Send s) false (Mail.send_if r (priority_of s) (controls_of s) v.mailbox).1)) (count_by orders (accepted_controls (Calls.Send s) false (Mail.send_if r (priority_of s) (controls_of s) v.mailbox).1)) 0 any v.mailbox (Mail.send_if r (priority_of s) (controls_of s) v.mailbox).0
-    admits (Ok u) = send_moves (priority_of s) (controls_of s) v.mailbox
+    admits : (r : Result ⊤ Refusal) → Moves (length (accepted_controls (Calls.Send s) false (as_value Ticket (Mail.send_if r (priority_of s) (controls_of s) v.mailbox).1))) (count_by orders (accepted_controls (Calls.Send s) false (as_value Ticket (Mail.send_if r (priority_of s) (controls_of s) v.mailbox).1))) 0 any v.mailbox (Mail.send_if r (priority_of s) (controls_of s) v.mailbox).0
+    admits (Ok u) = admit_all_moves (priority_of s) (controls_of s) v.mailbox
     admits (Err r) = still_moves any v.mailbox v.mailbox refl refl
 
-    by : (closed : Bool) → Moves (length (accepted_controls (Calls.Send s) closed (out closed).1)) (count_by orders (accepted_controls (Calls.Send s) closed (out closed).1)) 0 any v.mailbox (out closed).0.mailbox
+    by : (closed : Bool) → Moves (length (accepted_controls (Calls.Send s) closed (as_value Ticket (out closed).1))) (count_by orders (accepted_controls (Calls.Send s) closed (as_value Ticket (out closed).1))) 0 any v.mailbox (out closed).0.mailbox
     by true = still_moves any v.mailbox v.mailbox refl refl
     by false = admits (may_send (priority_of s) (controls_of s) v.mailbox)
 
@@ -101,19 +96,19 @@ collect_keeps ticket v = by (known_ticket ticket) refl
 -- ALL CALLS
 
 module _ {H T : Type 0} (by_host : Host.Ghosts H) (by_terminal : Terminal.Ghosts T) where
-  unchanged : (a b : Moment H T) (r : Result ℕ Refusal) → OnErr r (b.job ≡ a.job) → b.host ≡ a.host → b.terminal ≡ a.terminal → b.sheet ≡ a.sheet → OnErr r (b ≡ a)
+  unchanged : (a b : Moment H T) (r : Result Value Refusal) → OnErr r (b.job ≡ a.job) → b.host ≡ a.host → b.terminal ≡ a.terminal → b.sheet ≡ a.sheet → OnErr r (b ≡ a)
   unchanged a b (Ok x) e h t s = tt
   unchanged a b (Err x) e h t s =
       let same : moment b.job b.host b.terminal b.sheet ≡ a = rw (e, h, t, s) refl in
       same
 
-  kept : (a b : Moment H T) (r : Result ℕ Refusal) → b ≡ a → OnErr r (b ≡ a)
+  kept : (a b : Moment H T) (r : Result Value Refusal) → b ≡ a → OnErr r (b ≡ a)
   kept a b (Ok x) e = tt
   kept a b (Err x) e = e
 
-  quiet_fair : (c : Call) (f : JobView → JobView × Result ℕ Refusal) → ((v : JobView) → Keeps c v (f v)) → (a : Moment H T) (d : Done) (b : Moment H T) → AnswersAlone by_host by_terminal f a d b → Makes by_host by_terminal c a d b → IsFair by_host by_terminal c a d b
+  quiet_fair : (c : Call) (f : JobView → JobView × Result Value Refusal) → ((v : JobView) → Keeps c v (f v)) → (a : Moment H T) (d : Done) (b : Moment H T) → AnswersAlone by_host by_terminal f a d b → Makes by_host by_terminal c a d b → IsFair by_host by_terminal c a d b
   quiet_fair c f k a d b q made =
-      let moves : Keeps c (job_view a.job) (job_view b.job, d.answer) = subst (λ (x : JobView × Result ℕ Refusal). Keeps c (job_view a.job) x) (sym q.answers.answer) (k (job_view a.job)) in
+      let moves : Keeps c (job_view a.job) (job_view b.job, d.answer) = subst (λ (x : JobView × Result Value Refusal). Keeps c (job_view a.job) x) (sym q.answers.answer) (k (job_view a.job)) in
       record {
         issued = moves.issued;
         taken = omega (arith, moves.orders, ap (λ (x : Done). x.tally.ordered) q.does);
@@ -131,13 +126,11 @@ module _ {H T : Type 0} (by_host : Host.Ghosts H) (by_terminal : Terminal.Ghosts
       by : (r : Result Stepped Refusal) → StepsOrRefuses by_host by_terminal (tree_of kind own) time a r b → d ≡ step_done r b.sheet → IsFair by_host by_terminal (Calls.Step kind time) a d b
       by (Err r) h e = record { issued = grind (arith, h.1); taken = grind (arith, h.1, e); spawned = makes-spawns by_host by_terminal (Calls.Step kind time) a d b made; tickets = λ s l _. rw h.1 (goes_again (mark_of s (job_view a.job).mailbox.tickets.table)); refused = rw e h.1 }
       by (Ok s) h e =
-          let run = h.1.conducts in
-          let nothing : Books = record { roster = []; grants = 0; tried = 0 } in
-          let moves : Ends (job_view a.job) (step_end b.job s) = always_traced moved (IsAnswered by_host by_terminal) (λ _ x. Ends (job_view a.job) x) nothing (tree_of kind own time (job_view a.job)) _ _ run.trace (step_end b.job s) (step_always kind own time (job_view a.job) nothing) run.traces in
+          let moves : Ends (job_view a.job) (step_end b.job s) = step_moves kind time (job_view a.job) _ (step_end b.job s) (way_of kind own time a b s h.1) in
           record { issued = moves.issued; taken = rw e moves.orders; spawned = makes-spawns by_host by_terminal (Calls.Step kind time) a d b made; tickets = λ k l _. moves.tickets k l refl; refused = rw e tt }
 
   pub fair : (c : Call) (a : Moment H T) (d : Done) (b : Moment H T) → Makes by_host by_terminal c a d b → IsFair by_host by_terminal c a d b
-  fair (Calls.Send s) a d b r = quiet_fair (Calls.Send s) (send s) (send_keeps s) a d b r r
+  fair (Calls.Send s) a d b r = quiet_fair (Calls.Send s) (send_value s) (send_keeps s) a d b r r
   fair (Calls.Step kind time) a d b r = step_fair kind time a d b r
   fair (Calls.Pause signal) a d b r = quiet_fair (Calls.Pause signal) (pause_value signal) (pause_keeps signal) a d b r r
   fair (Calls.Look ticket) a d b r = record { issued = grind (arith, r.1); taken = grind (arith, r.0, r.1); spawned = makes-spawns by_host by_terminal (Calls.Look ticket) a d b r; tickets = λ s l _. rw r.1 (goes_again (mark_of s (job_view a.job).mailbox.tickets.table)); refused = kept a b d.answer r.1 }

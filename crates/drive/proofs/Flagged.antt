@@ -152,13 +152,13 @@ again_made : (k : Option Timer) (m : MailboxView) → m.timer ≡ k → IsInOrde
 again_made None m e order t z s l = cc z
 again_made (Some x) m e order t z s l = grind (arith, common_steps, timer_made [] m order x e s l, z)
 
-pub after_poll_flagged : (o : PollOutcome) (m : MailboxView) (f : Flags) → IsInOrder [] m → Flagged m f → Flagged (settle_poll o m) (Arms.seen o f)
-after_poll_flagged Over m f order h = ended_flagged m f order h
-after_poll_flagged Renewed m f order h =
+pub settle_poll_flagged : (o : PollOutcome) (m : MailboxView) (f : Flags) → IsInOrder [] m → Flagged m f → Flagged (settle_poll o m) (Arms.seen o f)
+settle_poll_flagged Over m f order h = ended_flagged m f order h
+settle_poll_flagged Renewed m f order h =
     subst (λ (k : Option ℕ). Flagged (raise_again (memory m.timer) (raise_at_end m)) (Arms.again k (Arms.ended_flags f))) (sym h.memory)
     (again_flagged (memory m.timer) (raise_at_end m) (Arms.ended_flags f) (once_ended m order.once) (λ t e. again_made m.timer m refl order t e) (ended_flagged m f order h))
-after_poll_flagged Idle m f order h = h
-after_poll_flagged Faulted m f order h = h
+settle_poll_flagged Idle m f order h = h
+settle_poll_flagged Faulted m f order h = h
 
 -- WHAT IS RECEIVED
 

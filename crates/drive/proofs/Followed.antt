@@ -19,7 +19,8 @@ use Rattle.drive.specs.declared.calls.Call.{Call}
 use Rattle.drive.specs.declared.calls.Call.TheVariants as Calls
 use Rattle.drive.specs.declared.calls.Done.{Done}
 use Rattle.drive.specs.Answers.{step_done}
-use Rattle.drive.specs.Calls.{Makes, AnswersAlone, known_ticket, pause_value, collect_value}
+use Rattle.drive.specs.declared.calls.Value.{Value}
+use Rattle.drive.specs.Calls.{Makes, AnswersAlone, known_ticket, send_value, pause_value, collect_value}
 use Rattle.drive.specs.Follows.{Agrees, IsApart, MakesSameCalls, own, Does, DoesIf, IsUntouched, Follow, MatchesOriginal}
 use Rattle.drive.specs.Original as Original
 use Rattle.drive.specs.Original.{Amendments, all_amendments, no_amendments}
@@ -38,10 +39,10 @@ module _ {H T : Type 0} (by_host : Host.Ghosts H) (by_terminal : Terminal.Ghosts
   Comes am c a o d b = (o' : Original.Original) × DoesIf by_host by_terminal d.answer (Does by_host by_terminal am c a o d b o') o o' × Agrees (job_view b.job) o'
 
   -- a call that asks nothing outside, for which the original does g
-  quiet_comes : (am : Amendments) (c : Call) (f : JobView → JobView × Result ℕ Refusal) (g : Original.Original → Original.Original) (a : Moment H T) (o : Original.Original) (d : Done) (b : Moment H T) → Agrees (job_view a.job) o → (is_ok (f (job_view a.job)).1 ≡ true → Agrees (f (job_view a.job)).0 (g o)) → AnswersAlone by_host by_terminal f a d b → ((o' : Original.Original) → o' ≡ g o → Does by_host by_terminal am c a o d b o') → Comes am c a o d b
+  quiet_comes : (am : Amendments) (c : Call) (f : JobView → JobView × Result Value Refusal) (g : Original.Original → Original.Original) (a : Moment H T) (o : Original.Original) (d : Done) (b : Moment H T) → Agrees (job_view a.job) o → (is_ok (f (job_view a.job)).1 ≡ true → Agrees (f (job_view a.job)).0 (g o)) → AnswersAlone by_host by_terminal f a d b → ((o' : Original.Original) → o' ≡ g o → Does by_host by_terminal am c a o d b o') → Comes am c a o d b
   quiet_comes am c f g a o d b agrees granted q does = by d.answer refl q.answers.unchanged
     where
-      by : (r : Result ℕ Refusal) → d.answer ≡ r → OnErr r (b.job ≡ a.job) → (o' : Original.Original) × DoesIf by_host by_terminal r (Does by_host by_terminal am c a o d b o') o o' × Agrees (job_view b.job) o'
+      by : (r : Result Value Refusal) → d.answer ≡ r → OnErr r (b.job ≡ a.job) → (o' : Original.Original) × DoesIf by_host by_terminal r (Does by_host by_terminal am c a o d b o') o o' × Agrees (job_view b.job) o'
       by (Ok x) e u =
           let answer : (f (job_view a.job)).1 ≡ Ok x = sym (ap (λ z. z.1) q.answers.answer) ∙ e in
           (g o, does (g o) refl, subst (λ (w : JobView). Agrees w (g o)) (sym (ap (λ z. z.0) q.answers.answer)) (granted (ap is_ok answer)))
@@ -63,17 +64,17 @@ module _ {H T : Type 0} (by_host : Host.Ghosts H) (by_terminal : Terminal.Ghosts
           let same : MakesSameCalls by_host by_terminal am kind now a o d b o'.0 = record { calls = run.trace; end = step_end b.job s; made = run.traces; left = refl; recorded = records; original = o'.1 } in
           (o'.0, granted d.answer answered o'.0 same, o'.2)
         where
-          granted : (r : Result ℕ Refusal) → is_ok r ≡ true → (o' : Original.Original) → MakesSameCalls by_host by_terminal am kind now a o d b o' → DoesIf by_host by_terminal r (MakesSameCalls by_host by_terminal am kind now a o d b o') o o'
+          granted : (r : Result Value Refusal) → is_ok r ≡ true → (o' : Original.Original) → MakesSameCalls by_host by_terminal am kind now a o d b o' → DoesIf by_host by_terminal r (MakesSameCalls by_host by_terminal am kind now a o d b o') o o'
           granted (Ok x) k o' same = same
           granted (Err r) k o' same = cc k
 
   comes : (am : Amendments) (c : Call) (a : Moment H T) (o : Original.Original) (d : Done) (b : Moment H T) → Agrees (job_view a.job) o → IsUntouched by_host by_terminal am c a d b → Makes by_host by_terminal c a d b → Comes am c a o d b
-  comes am (Calls.Send s) a o d b agrees u made = quiet_comes am (Calls.Send s) (Job.send s) (Original.send s) a o d b agrees (send_agrees s (job_view a.job) o (λ free. (a.job.in_order free).later) agrees) made (λ o' e. e)
+  comes am (Calls.Send s) a o d b agrees u made = quiet_comes am (Calls.Send s) (send_value s) (Original.send s) a o d b agrees (send_agrees s (job_view a.job) o (λ free. (a.job.in_order free).later) agrees) made (λ o' e. e)
   comes am (Calls.Step kind now) a o d b agrees u made = step_comes am kind now a o d b agrees u made
   comes am (Calls.Pause signal) a o d b agrees u made = quiet_comes am (Calls.Pause signal) (pause_value signal) (Original.notice signal) a o d b agrees (pause_agrees signal (job_view a.job) o agrees) made (λ o' e. e)
   comes am (Calls.Look ticket) a o d b agrees u made = by d.answer
     where
-      by : (r : Result ℕ Refusal) → (o' : Original.Original) × DoesIf by_host by_terminal r (o' ≡ o) o o' × Agrees (job_view b.job) o'
+      by : (r : Result Value Refusal) → (o' : Original.Original) × DoesIf by_host by_terminal r (o' ≡ o) o o' × Agrees (job_view b.job) o'
       by (Ok x) = (o, refl, rw made.1 agrees)
       by (Err r) = (o, refl, rw made.1 agrees)
   comes am (Calls.Collect ticket) a o d b agrees u made = quiet_comes am (Calls.Collect ticket) (collect_value (known_ticket ticket)) (λ o. o) a o d b agrees (λ _. collect_agrees ticket (job_view a.job) o (λ free. (a.job.in_order free).once) agrees) made (λ o' e. e)

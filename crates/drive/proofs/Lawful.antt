@@ -1,13 +1,15 @@
 -- From one moment of a run to the next: books that fit the job fit it again, and no start is tried that was not ordered.
-use Rattle.std.proofs.Common.{◌≡◌, ℕ, ◌+◌, ◌≤◌, Bool, true, false, Ok, Err, Result, List, [], ◌∷◌, if◌then◌else◌, length, refl, sym, ap, subst, ◌∙◌, arith}
+use Rattle.std.proofs.Common.{◌≡◌, ℕ, ◌+◌, ◌≤◌, Bool, true, false, is_ok, Ok, Err, Result, List, [], ◌∷◌, if◌then◌else◌, length, refl, sym, ap, subst, ◌∙◌, arith}
 use Rattle.std.specs.Prelude.{⊤}
 use Rattle.std.specs.Int.{from_bool}
 use Rattle.std.proofs.lemmas.Grind.{common_steps}
 use Rattle.host.specs.declared.process.Host as Host
 use Rattle.host.specs.declared.terminal.Terminal as Terminal
 use Rattle.host.specs.Interaction.{IsAnswered}
-use Rattle.task.specs.declared.messages.Control.{Control}
-use Rattle.task.proofs.Traced.{after, fitting_host, fitting_terminal, fitting}
+use Rattle.task.specs.declared.messages.Control as Message
+use Rattle.host.specs.Books.{HostBook, TerminalBook}
+use Rattle.host.proofs.Spawns.{journal-spawns}
+use Rattle.task.proofs.Traced.{Fitting, after, fitting_host, fitting_terminal, fitting}
 use Rattle.supervisor.specs.declared.answers.StepKind.{StepKind}
 use Rattle.supervisor.specs.declared.answers.Stepped.{Stepped}
 use Rattle.supervisor.specs.declared.errors.Refusal.{Refusal}
@@ -15,21 +17,25 @@ use Rattle.supervisor.specs.declared.queues.Priority.{Priority}
 use Rattle.supervisor.specs.declared.sends.Send.{Send}
 use Rattle.supervisor.specs.Job as Spec
 use Rattle.supervisor.specs.declared.job.Job.{Job}
-use Rattle.supervisor.specs.Job.{JobView, send, children_of, runs, tree_of, may_step}
+use Rattle.supervisor.specs.Job.{JobView, children_of, runs, tree_of}
 use Rattle.supervisor.specs.Mailbox as Mail
 use Rattle.supervisor.specs.Mailbox.{MailboxView, admit_all, admit, may_send}
 use Rattle.supervisor.specs.Sends.{priority_of, controls_of}
 use Rattle.supervisor.specs.Steps.{Moment, job_view, world_at, step_end, StepsOrRefuses}
 use Rattle.supervisor.specs.Timers.{owed_starts}
-use Rattle.supervisor.proofs.Fits.{StepFits, step_traced}
+use Rattle.supervisor.proofs.Ways.{StepFits, step_fits, way_traced}
 use Rattle.supervisor.proofs.Steps.{not_closed}
 use Rattle.drive.specs.declared.calls.Call.{Call}
 use Rattle.drive.specs.declared.calls.Call.TheVariants as Calls
 use Rattle.drive.specs.declared.calls.Done.{Done}
 use Rattle.drive.specs.Answers.{step_done}
-use Rattle.drive.specs.Calls.{Makes, AnswersAlone, known_ticket, pause_value, collect_value}
+use Rattle.drive.specs.declared.calls.Value.{Value}
+use Rattle.drive.specs.Calls.{Makes, AnswersAlone, known_ticket, send_value, pause_value, collect_value}
 use Rattle.drive.specs.Laws.{BooksFit}
-use Rattle.drive.proofs.Steps.{tried-spawns}
+use Rattle.supervisor.specs.declared.answers.StepKind.TheVariants.{Control}
+use Rattle.supervisor.specs.Laws.{TakesWhenDue}
+use Rattle.supervisor.proofs.Graces.{control_accepted}
+use Rattle.drive.proofs.Steps.{accepted, tried-spawns}
 
 -- what the laws ask of a job is as it was
 record Same (v w : JobView) : Type 0 where
@@ -37,12 +43,12 @@ record Same (v w : JobView) : Type 0 where
   grant : w.task.foreground.grant ≡ v.task.foreground.grant
   owed : owed_starts w.mailbox.timer ≡ owed_starts v.mailbox.timer
 
-admitted_timer : (p : Priority) (cs : List Control) (m : MailboxView) → (admit_all p cs m).timer ≡ m.timer
+admitted_timer : (p : Priority) (cs : List Message.Control) (m : MailboxView) → (admit_all p cs m).timer ≡ m.timer
 admitted_timer p [] m = refl
 admitted_timer p (c ∷ []) m = refl
 admitted_timer p (c ∷ d ∷ cs) m = admitted_timer p (d ∷ cs) (admit p c false m)
 
-send_same : (s : Send) (v : JobView) → Same v (send s v).0
+send_same : (s : Send) (v : JobView) → Same v (send_value s v).0
 send_same s v = by v.closed
   where
     admits : (r : Result ⊤ Refusal) → Same v (Spec.after_send (Mail.send_if r (priority_of s) (controls_of s) v.mailbox) v).0
@@ -73,7 +79,7 @@ module _ {H T : Type 0} (by_host : Host.Ghosts H) (by_terminal : Terminal.Ghosts
     pub books : BooksFit by_host by_terminal a → BooksFit by_host by_terminal b
     pub starts : owed_starts (job_view b.job).mailbox.timer + d.tally.tried ≤ owed_starts (job_view a.job).mailbox.timer + d.tally.ordered
 
-  quiet_goes : (f : JobView → JobView × Result ℕ Refusal) → ((v : JobView) → Same v (f v).0) → (a : Moment H T) (d : Done) (b : Moment H T) → AnswersAlone by_host by_terminal f a d b → Goes a d b
+  quiet_goes : (f : JobView → JobView × Result Value Refusal) → ((v : JobView) → Same v (f v).0) → (a : Moment H T) (d : Done) (b : Moment H T) → AnswersAlone by_host by_terminal f a d b → Goes a d b
   quiet_goes f k a d b q =
       let same : Same (job_view a.job) (job_view b.job) = subst (λ (w : JobView). Same (job_view a.job) w) (sym (ap (λ x. x.0) q.answers.answer)) (k (job_view a.job)) in
       record {
@@ -95,19 +101,25 @@ module _ {H T : Type 0} (by_host : Host.Ghosts H) (by_terminal : Terminal.Ghosts
       by (Ok s) h e =
           let run = h.1.conducts in
           let free = not_closed time (length a.sheet) v h.0 in
-          let fits = step_traced (IsAnswered by_host by_terminal) kind own time v free a.job.granted (world_at a) (world_at b) run.trace (step_end b.job s) run.traces in
+          let fits = λ (h : HostBook) (u : TerminalBook) (f : Fitting v.task h u). step_fits time v kind _ _ free (way_traced time v (IsAnswered by_host by_terminal) kind own a.job.granted (world_at a) (world_at b) run.trace (step_end b.job s) run.traces h u f) in
           let tried = tried-spawns by_host by_terminal (tree_of kind own) time a b s h in
           let starts : StepFits v (after (fitting_host v.task) (fitting_terminal v.task) run.trace) (step_end b.job s) = fits (fitting_host v.task) (fitting_terminal v.task) (fitting v.task) in
           record {
             books = λ f.
                 let step : StepFits v (after (by_host.book a.host) (by_terminal.book a.terminal) run.trace) (step_end b.job s) = fits (by_host.book a.host) (by_terminal.book a.terminal) (record { roster = rw free at f.roster; grants = f.grants }) in
-                record { roster = ap (λ x. x.roster) h.1.host_book ∙ step.1; grants = ap (λ x. x.grants) h.1.terminal_book ∙ step.2; holder = holds b.job };
-            starts = rw e (omega (arith, starts.3, tried));
+                record { roster = ap (λ x. x.roster) h.1.host_book ∙ step.roster; grants = ap (λ x. x.grants) h.1.terminal_book ∙ step.grants; holder = holds b.job };
+            starts = rw e (omega (arith, starts.starts, journal-spawns run.trace, tried));
           }
 
   pub goes : (c : Call) (a : Moment H T) (d : Done) (b : Moment H T) → Makes by_host by_terminal c a d b → Goes a d b
-  goes (Calls.Send s) a d b r = quiet_goes (send s) (send_same s) a d b r
+  goes (Calls.Send s) a d b r = quiet_goes (send_value s) (send_same s) a d b r
   goes (Calls.Step kind time) a d b r = step_goes kind time a d b r
   goes (Calls.Pause signal) a d b r = quiet_goes (pause_value signal) (pause_same signal) a d b r
   goes (Calls.Look ticket) a d b r = record { books = λ f. rw r.1 f; starts = rw (r.1, r.0) (omega arith) }
   goes (Calls.Collect ticket) a d b r = quiet_goes (collect_value (known_ticket ticket)) (collect_same ticket) a d b r
+
+  -- what an accepted control step makes of a timer
+  pub control_taken : (time : ℕ) (a : Moment H T) (d : Done) (b : Moment H T) → is_ok d.answer ≡ true → Makes by_host by_terminal (Calls.Step Control time) a d b → TakesWhenDue time (job_view a.job) (job_view b.job)
+  control_taken time a d b k made =
+      let step = accepted by_host by_terminal Control time a d b made k in
+      (control_accepted time a b step.0 (a.job.in_order (not_closed time (length a.sheet) (job_view a.job) step.1)) step.2).0

@@ -6,28 +6,24 @@ use Rattle.host.specs.declared.terminal.Terminal as Terminal
 use Rattle.tickets.specs.Weights.{one_at}
 use Rattle.tickets.proofs.Tables.{one_standing}
 use Rattle.supervisor.specs.declared.answers.StepKind.TheVariants.{Control}
-use Rattle.supervisor.specs.declared.answers.Stepped.{Stepped}
-use Rattle.supervisor.specs.declared.errors.Refusal.{Refusal}
 use Rattle.supervisor.specs.declared.timer.Timer.{Timer}
 use Rattle.std.specs.Int.{from_bool}
-use Rattle.supervisor.specs.Job.{children_of, control_step}
+use Rattle.supervisor.specs.Job.{children_of}
 use Rattle.supervisor.specs.Laws.{Pends}
 use Rattle.supervisor.specs.Mailbox.{MailboxView}
 use Rattle.supervisor.specs.Sound.{IsInOrder}
-use Rattle.supervisor.specs.Steps.{Moment, StepsOrRefuses}
+use Rattle.supervisor.specs.Steps.{Moment}
 use Rattle.supervisor.specs.Timers.{memory, owed_starts}
-use Rattle.supervisor.proofs.Graces.{control_accepted}
-use Rattle.supervisor.proofs.Steps.{not_closed}
+use Rattle.supervisor.proofs.Ways.{one_at_most}
 use Rattle.drive.specs.declared.calls.Call.{Call}
 use Rattle.drive.specs.declared.calls.Call.TheVariants.{Step}
 use Rattle.drive.specs.declared.calls.Done.{Done}
-use Rattle.drive.specs.Answers.{step_done}
 use Rattle.drive.specs.Calls.{Makes}
 use Rattle.drive.specs.Laws.{job_at, place_count, BooksFit, IsLawful, IsFair, AtEach, KeepsLaws}
 use Rattle.drive.specs.Restarts.{RestartPends, KeepsRestartLaws}
 use Rattle.drive.specs.Turns.{Turn, Linked, tried_in, ordered_in}
 use Rattle.drive.proofs.Fair.{fair}
-use Rattle.drive.proofs.Lawful.{holds, goes}
+use Rattle.drive.proofs.Lawful.{holds, goes, control_taken}
 
 -- of a mailbox in order each ticket is in one place
 in_one_place : (s : ℕ) (m : MailboxView) → IsInOrder [] m → place_count s m ≡ 1
@@ -73,13 +69,8 @@ module _ {H T : Type 0} (by_host : Host.Ghosts H) (by_terminal : Terminal.Ghosts
 
   -- the step that takes the message of a timer leaves no start owed
   none_owed : (t : Timer) (time : ℕ) (a : Moment H T) (d : Done) (b : Moment H T) → Pends t (job_at a) → t.deadline ≤ time → is_ok d.answer ≡ true → Makes by_host by_terminal (Step Control time) a d b → owed_starts (job_at b).mailbox.timer ≡ 0
-  none_owed t time a d b p l k made = by made.answer made.step made.does
-    where
-      by : (r : Result Stepped Refusal) → StepsOrRefuses by_host by_terminal control_step time a r b → d ≡ step_done r b.sheet → owed_starts (job_at b).mailbox.timer ≡ 0
-      by (Ok s) h e =
-          let order = a.job.in_order (not_closed time (length a.sheet) (job_at a) h.0) in
-          ap owed_starts ((control_accepted time a b s order h.1).0.due t p l).0
-      by (Err r) h e = absurd (grind (arith, k, e))
+  none_owed t time a d b p l k made = ap owed_starts ((control_taken by_host by_terminal time a d b k made).due t p l).0
+
 
   pub restarts : (cs : List Call) (a : Moment H T) (ts : List (Turn (Moment H T))) (b : Moment H T) → Linked (Makes by_host by_terminal) cs a ts b → KeepsRestartLaws cs a ts
   restarts cs a ts b h =
@@ -89,11 +80,7 @@ module _ {H T : Type 0} (by_host : Host.Ghosts H) (by_terminal : Terminal.Ghosts
       }
     where
       owed_one : (t : Option Timer) → owed_starts t ≤ 1
-      owed_one t = one (is_some (memory t))
-        where
-          one : (b : Bool) → from_bool b ≤ 1
-          one true = omega arith
-          one false = omega arith
+      owed_one t = one_at_most (is_some (memory t))
 
       after : (t : Timer) (time : ℕ) (rest : List Call) (first : Turn (Moment H T)) (later : List (Turn (Moment H T))) → RestartPends t (job_at a) → t.deadline ≤ time → is_ok first.did.answer ≡ true → Linked (Makes by_host by_terminal) (Step Control time ∷ rest) a (first ∷ later) b → tried_in later ≤ ordered_in later
       after t time rest first later p l k g =

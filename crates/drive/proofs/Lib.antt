@@ -5,7 +5,6 @@ pub mod Counts
 pub mod Fair
 pub mod Flagged
 pub mod Followed
-pub mod Forced
 pub mod Histories
 pub mod Lawful
 pub mod Laws

@@ -73,10 +73,10 @@ again_moves : (o : Option ℕ) (m : MailboxView) → Moves 0 0 0 any m (raise_ag
 again_moves None m = still_moves any m m refl refl
 again_moves (Some t) m = raise_moves t m
 
-pub after_poll_moves : (o : PollOutcome) (m : MailboxView) → Moves 0 0 0 any m (settle_poll o m)
-after_poll_moves Over m = ended_moves m
-after_poll_moves Renewed m = then_moves m (raise_at_end m) (raise_again (memory m.timer) (raise_at_end m)) (ended_moves m) (again_moves (memory m.timer) (raise_at_end m))
-after_poll_moves o m = still_moves any m m refl refl
+pub settle_poll_moves : (o : PollOutcome) (m : MailboxView) → Moves 0 0 0 any m (settle_poll o m)
+settle_poll_moves Over m = ended_moves m
+settle_poll_moves Renewed m = then_moves m (raise_at_end m) (raise_again (memory m.timer) (raise_at_end m)) (ended_moves m) (again_moves (memory m.timer) (raise_at_end m))
+settle_poll_moves o m = still_moves any m m refl refl
 
 orders_in-cons : (c : ControlMessage) (cs : List ControlMessage) → orders_in (c ∷ cs) ≡ from_bool (orders c.control) + orders_in cs
 orders_in-cons c cs = grind (arith, sum_by-cons (λ (m : ControlMessage). cond (orders m.control) 1 0) c cs)
@@ -122,7 +122,7 @@ admit_moves p c held m =
 orders-cons : (c : Control) (cs : List Control) → count_by orders (c ∷ cs) ≡ from_bool (orders c) + count_by orders cs
 orders-cons c cs = grind (arith, sum_by-cons (λ (d : Control). cond (orders d) 1 0) c cs)
 
-admit_all_moves : (p : Priority) (cs : List Control) (m : MailboxView) → Moves (length cs) (count_by orders cs) 0 any m (admit_all p cs m)
+pub admit_all_moves : (p : Priority) (cs : List Control) (m : MailboxView) → Moves (length cs) (count_by orders cs) 0 any m (admit_all p cs m)
 admit_all_moves p [] m = still_moves any m m refl refl
 admit_all_moves p (c ∷ []) m = one (admit_moves p c true m)
   where
@@ -137,9 +137,6 @@ admit_all_moves p (c ∷ d ∷ cs) m =
       orders = omega (arith, h.orders, k.orders, orders-cons c (d ∷ cs));
       tickets = λ s l e. goes_further (mark_of s m.tickets.table) (mark_of s n.tickets.table) (mark_of s (admit_all p (d ∷ cs) n).tickets.table) (h.tickets s l refl) (k.tickets s (omega (arith, l, h.issued)) refl);
     }
-
-pub send_moves : (p : Priority) (cs : List Control) (m : MailboxView) → Moves (length cs) (count_by orders cs) 0 any m (admit_all p cs m)
-send_moves = admit_all_moves
 
 pub vacate_moves : (t : ℕ) (m : MailboxView) → Moves 0 0 0 (λ s. not (t == s)) m (vacate_ticket t m)
 vacate_moves t m = stays (λ s. not (t == s)) m (vacate_ticket t m) refl refl (λ s e. rw (found-vacate s t m.tickets.table (grind (arith, nat_tests, e))) (goes_again (mark_of s m.tickets.table)))

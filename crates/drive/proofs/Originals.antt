@@ -14,7 +14,9 @@ use Rattle.task.specs.declared.task.Outcome.{Outcome}
 use Rattle.task.specs.declared.task.PollOutcome.{PollOutcome}
 use Rattle.task.specs.Task as Tree
 use Rattle.task.specs.Task.{TaskView, closes, GrantMeansRunning, MaySetTimer}
-use Rattle.task.proofs.Traced.{control_traced, fitting}
+use Rattle.host.specs.State.{is_running}
+use Rattle.task.proofs.Courses.{Carried, control_fits}
+use Rattle.task.proofs.Traced.{traced, fitting}
 use Rattle.supervisor.specs.declared.answers.StepKind.{StepKind}
 use Rattle.supervisor.specs.declared.answers.StepKind.TheVariants as Kinds
 use Rattle.supervisor.specs.declared.mailbox.Received as Message
@@ -29,7 +31,7 @@ use Rattle.drive.specs.Follows.{heard_calls, Follows, Agrees, is_launch, IsApart
 use Rattle.drive.proofs.Likeness.{Spoken, like_follows}
 use Rattle.drive.proofs.Arms as Arms
 use Rattle.drive.proofs.Arms.{Flags, with_task, Settles, Seen, Paused, AtOnce, control_like, poll_like, pause_like}
-use Rattle.drive.proofs.Flagged.{Flagged, Received, settle_flagged, after_poll_flagged, recv_flagged}
+use Rattle.drive.proofs.Flagged.{Flagged, Received, settle_flagged, settle_poll_flagged, recv_flagged}
 
 -- THE SAME STATE
 
@@ -83,10 +85,10 @@ module _ {W : Type 0} (did : W → (c : Call) → Reply c → W → Type 0) (am 
   control_comes r n e g k d w w' p s apart run =
       let c = r.message.control in
       let x = traces_made did (Tree.control c now v.task) (control_end now r n) w w' p s run in
-      let ends = control_traced did v.task granted c now w w' p x.0 x.1 _ _ (fitting v.task) in
+      let ends = traced did v.task granted (Carried c (is_running v.task.state)) (Tree.control c now v.task) w w' p x.0 (control_fits c now v.task) x.1 _ _ (fitting v.task) in
       let like = control_like am v.task.foreground.pauses (Speaks Waits) (λ program options way time child h. h refl) now r.message.ticket c v.task g (at_once c v.task.state (λ i j. apart.pending refl r n e i j)) refl in
       let y = like_follows (Speaks Waits) did (Settles now r.message.ticket g) (Tree.control c now v.task) (Original.arm am c now r.message.ticket (with_task v.task g)) w w' p x.0 like x.1 (spoken Waits p apart.waiting) in
-      (y.0, y.1, subst (λ (z : StepEnd). Agrees z.view y.0) (sym x.2) (settles_agree r n e g k d x.0 ends.4 y.0 y.2))
+      (y.0, y.1, subst (λ (z : StepEnd). Agrees z.view y.0) (sym x.2) (settles_agree r n e g k d x.0 ends.timed y.0 y.2))
     where
       Waits : Type 0
       Waits = (if am.drops then [] else v.task.foreground.pauses) ≡ []
@@ -123,7 +125,7 @@ module _ {W : Type 0} (did : W → (c : Call) → Reply c → W → Type 0) (am 
           let x = traces_made did (Tree.poll_child (is_some o.on_end_restart) now v.task) (poll_end now v) w w' p s run in
           let like = poll_like am v.task.foreground.pauses (Speaks Waits) (λ program options way time child k. k refl) now 0 v.task (flags_of o) refl in
           let y = like_follows (Speaks Waits) did (Seen (flags_of o)) (Tree.poll_child (is_some o.on_end_restart) now v.task) (Original.wait_branch am v.task.state now (with_task v.task (flags_of o))) w w' p x.0 like x.1 (spoken Waits p apart.waiting) in
-          (y.0, y.1, subst (λ (z : StepEnd). Agrees z.view y.0) (sym x.2) (rw y.2 (agree (poll_end now v x.0).view (Arms.seen x.0.1 (flags_of o)) (after_poll_flagged x.0.1 v.mailbox (flags_of o) order h) (seen_gone x.0.1 (flags_of o) ∙ a.closed))))
+          (y.0, y.1, subst (λ (z : StepEnd). Agrees z.view y.0) (sym x.2) (rw y.2 (agree (poll_end now v x.0).view (Arms.seen x.0.1 (flags_of o)) (settle_poll_flagged x.0.1 v.mailbox (flags_of o) order h) (seen_gone x.0.1 (flags_of o) ∙ a.closed))))
 
       by : (kind : StepKind) → IsApart am kind now v (journal p) → Traces did (tree_of kind own now v) w p s w' → Comes (Original.branch am kind own now (with_task v.task (flags_of o))) p s
       by Kinds.Control apart run = controls apart (Mail.take now v.mailbox) refl (recv_flagged v.task v.mailbox (flags_of o) h am now (apart.outlasted refl)) run

@@ -17,22 +17,20 @@ use Rattle.supervisor.specs.declared.queues.Priority.{Priority}
 use Rattle.supervisor.specs.declared.queues.Priority.TheVariants.{Normal, High, Urgent}
 use Rattle.supervisor.specs.declared.sends.Send.{Send}
 use Rattle.supervisor.specs.Job as Job
-use Rattle.supervisor.specs.Job.{JobView, with_mailbox, send}
+use Rattle.supervisor.specs.Job.{JobView, with_mailbox}
 use Rattle.supervisor.specs.Mailbox as Mail
 use Rattle.supervisor.specs.Mailbox.{MailboxView, QueuesView, message, enqueue, admit, admit_all, may_send}
 use Rattle.supervisor.specs.Sends.{priority_of, controls_of}
+use Rattle.supervisor.specs.Sound.{HasNoneLater}
 use Rattle.drive.specs.Follows.{message_of, is_raised, Agrees}
-use Rattle.drive.specs.Calls.{with_zero, known_ticket, pause_value, collect_value}
+use Rattle.drive.specs.declared.calls.Value.TheVariants.{Ticket}
+use Rattle.drive.specs.Calls.{as_value, with_nothing, known_ticket, send_value, pause_value, collect_value}
 use Rattle.drive.specs.Original as Original
 
 -- SENDS
 
 one_place : (n last : ℕ) (es : Table) → ticket_room (n + 1) last es ≡ true → 1 ≤ free_places es
 one_place n last es h = grind (arith, nat_tests, h)
-
--- no ticket has a place that was not issued yet
-abbrev pub NoneLater : MailboxView → Type 0
-NoneLater m = (s : ℕ) → m.tickets.issued < s → weight is_taken (one_at s) m.tickets.table ≡ 0
 
 -- a new ticket is not settled
 put_waits : (t : ℕ) (held : Bool) (es : Table) → 1 ≤ free_places es → weight is_taken (one_at t) es ≡ 0 → done_count (mark_of t (put t (new_mark held) es)) ≡ 0
@@ -41,10 +39,10 @@ put_waits t held es room none =
     let waiting = put-weight is_waiting t (new_mark held) es room (one_at t) in
     grind (arith, common_steps, one_standing t (put t (new_mark held) es), taken, waiting, one_at-same t, taken_parts (one_at t) es)
 
-admitted_later : (p : Priority) (c : Control) (held : Bool) (m : MailboxView) → 1 ≤ free_places m.tickets.table → NoneLater m → NoneLater (admit p c held m)
+admitted_later : (p : Priority) (c : Control) (held : Bool) (m : MailboxView) → 1 ≤ free_places m.tickets.table → HasNoneLater m → HasNoneLater (admit p c held m)
 admitted_later p c held m room none s l = grind (arith, nat_tests, put-weight is_taken (m.tickets.issued + 1) (new_mark held) m.tickets.table room (one_at s), none s (omega arith))
 
-admit_agrees : (p : Priority) (c : Control) (held : Bool) (v : JobView) (o : Original.Original) → 1 ≤ free_places v.mailbox.tickets.table → NoneLater v.mailbox → v.closed ≡ false → Agrees v o → Agrees (with_mailbox (admit p c held v.mailbox) v) (Original.prepare p c o)
+admit_agrees : (p : Priority) (c : Control) (held : Bool) (v : JobView) (o : Original.Original) → 1 ≤ free_places v.mailbox.tickets.table → HasNoneLater v.mailbox → v.closed ≡ false → Agrees v o → Agrees (with_mailbox (admit p c held v.mailbox) v) (Original.prepare p c o)
 admit_agrees p c held v o room none free a = by p
   where
     t : ℕ
@@ -74,7 +72,7 @@ admit_agrees p c held v o room none free a = by p
     by High = with o.normal _ o.urgent (enqueue High (message c (v.mailbox.tickets.issued + 1)) v.mailbox.queues) a.normal (one_more o.high v.mailbox.queues.high a.high) a.urgent
     by Urgent = with o.normal o.high _ (enqueue Urgent (message c (v.mailbox.tickets.issued + 1)) v.mailbox.queues) a.normal a.high (one_more o.urgent v.mailbox.queues.urgent a.urgent)
 
-admit_all_agrees : (p : Priority) (cs : List Control) (v : JobView) (o : Original.Original) → ticket_room (length cs) v.mailbox.tickets.issued v.mailbox.tickets.table ≡ true → NoneLater v.mailbox → v.closed ≡ false → Agrees v o → Agrees (with_mailbox (admit_all p cs v.mailbox) v) (Original.send_all p cs o)
+admit_all_agrees : (p : Priority) (cs : List Control) (v : JobView) (o : Original.Original) → ticket_room (length cs) v.mailbox.tickets.issued v.mailbox.tickets.table ≡ true → HasNoneLater v.mailbox → v.closed ≡ false → Agrees v o → Agrees (with_mailbox (admit_all p cs v.mailbox) v) (Original.send_all p cs o)
 admit_all_agrees p [] v o room none free a = a
 admit_all_agrees p (c ∷ []) v o room none free a = admit_agrees p c true v o (one_place 0 v.mailbox.tickets.issued v.mailbox.tickets.table room) none free a
 admit_all_agrees p (c ∷ d ∷ cs) v o room none free a =
@@ -91,14 +89,14 @@ same_send s o = by s
     by : (s : Send) → Original.send s o ≡ Original.send_controls (priority_of s) (controls_of s) o
     by s = grind (arith, common_steps)
 
-pub send_agrees : (s : Send) (v : JobView) (o : Original.Original) → (v.closed ≡ false → NoneLater v.mailbox) → Agrees v o → is_ok (send s v).1 ≡ true → Agrees (send s v).0 (Original.send s o)
+pub send_agrees : (s : Send) (v : JobView) (o : Original.Original) → (v.closed ≡ false → HasNoneLater v.mailbox) → Agrees v o → is_ok (send_value s v).1 ≡ true → Agrees (send_value s v).0 (Original.send s o)
 send_agrees s v o none a k = rw (same_send s o) (by v.closed o.gone refl a.closed k)
   where
-    admits : (r : Result ⊤ Refusal) → v.closed ≡ false → may_send (priority_of s) (controls_of s) v.mailbox ≡ r → is_ok (Mail.send_if r (priority_of s) (controls_of s) v.mailbox).1 ≡ true → Agrees (Job.after_send (Mail.send_if r (priority_of s) (controls_of s) v.mailbox) v).0 (Original.send_all (priority_of s) (controls_of s) o)
+    admits : (r : Result ⊤ Refusal) → v.closed ≡ false → may_send (priority_of s) (controls_of s) v.mailbox ≡ r → is_ok (as_value Ticket (Mail.send_if r (priority_of s) (controls_of s) v.mailbox).1) ≡ true → Agrees (Job.after_send (Mail.send_if r (priority_of s) (controls_of s) v.mailbox) v).0 (Original.send_all (priority_of s) (controls_of s) o)
     admits (Ok u) e l k = admit_all_agrees (priority_of s) (controls_of s) v o (grind (arith, l)) (none e) e a
     admits (Err r) e l k = cc k
 
-    by : (closed gone : Bool) → v.closed ≡ closed → gone ≡ closed → is_ok (if closed then (v, Ok 0) else Job.after_send (Mail.send (priority_of s) (controls_of s) v.mailbox) v).1 ≡ true → Agrees (if closed then (v, Ok 0) else Job.after_send (Mail.send (priority_of s) (controls_of s) v.mailbox) v).0 (if gone then o else Original.send_all (priority_of s) (controls_of s) o)
+    by : (closed gone : Bool) → v.closed ≡ closed → gone ≡ closed → is_ok (as_value Ticket (if closed then (v, Ok 0) else Job.after_send (Mail.send (priority_of s) (controls_of s) v.mailbox) v).1) ≡ true → Agrees (if closed then (v, Ok 0) else Job.after_send (Mail.send (priority_of s) (controls_of s) v.mailbox) v).0 (if gone then o else Original.send_all (priority_of s) (controls_of s) o)
     by true true e g k = a
     by false false e g k = admits (may_send (priority_of s) (controls_of s) v.mailbox) e refl k
     by true false e g k = cc g
@@ -109,7 +107,7 @@ send_agrees s v o none a k = rw (same_send s o) (by v.closed o.gone refl a.close
 pub pause_agrees : (signal : ℕ) (v : JobView) (o : Original.Original) → Agrees v o → is_ok (pause_value signal v).1 ≡ true → Agrees (pause_value signal v).0 (Original.notice signal o)
 pause_agrees signal v o a k = by (Job.may_pause signal v) k
   where
-    by : (r : Result ⊤ Refusal) → is_ok (with_zero (Job.pause_if r signal v)).1 ≡ true → Agrees (with_zero (Job.pause_if r signal v)).0 (Original.notice signal o)
+    by : (r : Result ⊤ Refusal) → is_ok (with_nothing (Job.pause_if r signal v)).1 ≡ true → Agrees (with_nothing (Job.pause_if r signal v)).0 (Original.notice signal o)
     by (Ok u) k = record { command = a.command; state = a.state; previous = a.previous; handler = a.handler; hook = a.hook; way = a.way; paused = a.paused; pauses = ap (λ signals. signals ++ signal ∷ []) a.pauses; watch = a.watch; grant = a.grant; normal = a.normal; high = a.high; urgent = a.urgent; timer = a.timer; memory = a.memory; ending = a.ending; issued = a.issued; closed = a.closed; later = a.later; raised = a.raised }
     by (Err r) k = cc k
 

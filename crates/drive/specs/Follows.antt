@@ -10,7 +10,7 @@ use Rattle.host.specs.declared.state.CommandState.TheVariants.{Pending}
 use Rattle.host.specs.declared.terminal.Terminal as Terminal
 use Rattle.host.specs.Calls.{Event, let_go, to_host}
 use Rattle.host.specs.Interaction.{Interaction, Traces, IsAnswered}
-use Rattle.host.specs.Journal.{journal}
+use Rattle.host.specs.Journal.{journal, is_spawn, is_fault}
 use Rattle.tickets.specs.Tickets.{mark_of, done_count}
 use Rattle.task.specs.declared.messages.ControlMessage.{ControlMessage}
 use Rattle.task.specs.declared.messages.GraceEnd.{GraceEnd}
@@ -23,12 +23,12 @@ use Rattle.supervisor.specs.declared.mailbox.Received.{Received}
 use Rattle.supervisor.specs.declared.timer.Timer.{Timer}
 use Rattle.supervisor.specs.Job as Job
 use Rattle.supervisor.specs.Job.{JobView, StepEnd, tree_of}
-use Rattle.supervisor.specs.Laws.{is_spawn, is_fault}
 use Rattle.supervisor.specs.Mailbox as Mail
 use Rattle.supervisor.specs.Mailbox.{MailboxView}
 use Rattle.supervisor.specs.Steps.{Moment, job_view, world_at}
 use Rattle.supervisor.specs.Timers.{memory}
 use Rattle.drive.specs.declared.calls.Call.{Call}
+use Rattle.drive.specs.declared.calls.Value.{Value}
 use Rattle.drive.specs.declared.calls.Call.TheVariants as Calls
 use Rattle.drive.specs.declared.calls.Done.{Done}
 use Rattle.drive.specs.Original.{Amendments, all_amendments, no_amendments, Original, Message, StopTimer, branch, send, notice, fresh_original}
@@ -120,7 +120,7 @@ module _ {H T : Type 0} (by_host : Host.Ghosts H) (by_terminal : Terminal.Ghosts
   Does am (Calls.Look ticket) a o d b o' = o' ≡ o
   Does am (Calls.Collect ticket) a o d b o' = o' ≡ o
 
-  abbrev pub DoesIf : Result ℕ Refusal → Type 0 → Original → Original → Type 0
+  abbrev pub DoesIf : Result Value Refusal → Type 0 → Original → Original → Type 0
   DoesIf (Ok value) does o o' = does
   DoesIf (Err refusal) does o o' = o' ≡ o
 

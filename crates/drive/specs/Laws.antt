@@ -5,6 +5,7 @@ use Rattle.std.specs.Int.{from_bool}
 use Rattle.std.specs.List.{count_by}
 use Rattle.host.specs.declared.command.Command.{Command}
 use Rattle.host.specs.declared.process.Host as Host
+use Rattle.host.specs.Books.{no_child}
 use Rattle.host.specs.declared.terminal.Terminal as Terminal
 use Rattle.tickets.specs.Tickets.{mark_of, done_count, goes_on}
 use Rattle.tickets.specs.Weights.{weigh, one_at}
@@ -19,6 +20,7 @@ use Rattle.supervisor.specs.Sound.{weigh_queues, weigh_timer}
 use Rattle.supervisor.specs.Steps.{Moment, job_view}
 use Rattle.supervisor.specs.Timers.{owed_starts}
 use Rattle.drive.specs.declared.calls.Call.{Call}
+use Rattle.drive.specs.declared.calls.Value.{Value}
 use Rattle.drive.specs.declared.calls.Call.TheVariants.{Send, Collect}
 use Rattle.drive.specs.declared.calls.Done.{Done}
 use Rattle.drive.specs.Turns.{Turn, Linked}
@@ -31,7 +33,7 @@ abbrev pub place_count : ℕ → MailboxView → ℕ
 place_count s m = weigh_queues (one_at s) m.queues + weigh_timer (one_at s) m.timer + weigh (one_at s) m.ending + done_count (mark_of s m.tickets.table)
 
 -- the controls that a call has accepted: those of a send that is granted on a job that is not closed
-abbrev pub accepted_controls : Call → Bool → Result ℕ Refusal → List Control
+abbrev pub accepted_controls : Call → Bool → Result Value Refusal → List Control
 accepted_controls (Send s) false (Ok ticket) = controls_of s
 accepted_controls c closed answer = []
 
@@ -85,5 +87,5 @@ AtEach P tried ordered a (t ∷ ts) = P tried ordered a × AtEach P (tried + t.d
 -- open grant, with no start owed. And each of its calls is fair.
 pub record KeepsLaws {H T : Type 0} (by_host : Host.Ghosts H) (by_terminal : Terminal.Ghosts T) (calls : List Call) (a : Moment H T) (turns : List (Turn (Moment H T))) (b : Moment H T) : Type 0 where
   pub lawful : BooksFit by_host by_terminal a → AtEach (IsLawful by_host by_terminal (owed_starts (job_at a).mailbox.timer)) 0 0 a turns
-  pub from_fresh : (c : Command) → job_at a ≡ fresh_job c → (by_host.book a.host).roster ≡ [] → (by_terminal.book a.terminal).grants ≡ 0 → AtEach (IsLawful by_host by_terminal 0) 0 0 a turns
+  pub from_fresh : (c : Command) → job_at a ≡ fresh_job c → (by_host.book a.host).roster ≡ no_child → (by_terminal.book a.terminal).grants ≡ 0 → AtEach (IsLawful by_host by_terminal 0) 0 0 a turns
   pub fair : Linked (IsFair by_host by_terminal) calls a turns b
