@@ -12,7 +12,7 @@ use Rattle.foreground.specs.Simulated.{TerminalView, Did, book_of, count_call, s
 
 fits_owner : (n : ℕ) (foreground : Option Group) → TerminalFits n owner (option_map number foreground)
 fits_owner n None = tt
-fits_owner n (Some group) = (group.low, group.high)
+fits_owner n (Some group) = group.low
 
 moved_acquire : (s : TerminalView) (group : ℕ) → let d = serve (count_call s) (acquire group) in book_of d.1 ≡ terminal_after (book_of s) (acquire group) d.0
 moved_acquire s group = grind (arith, nat_tests)
@@ -39,4 +39,4 @@ few_grants None = omega arith
 few_grants (Some settings) = omega arith
 
 pub sound : (t : SimulatedTerminal) → IsTerminal (book_of (view t))
-sound t = (t.console.process.group.low, t.console.process.group.high, few_grants t.saved)
+sound t = (t.console.process.group.low, few_grants t.saved)
