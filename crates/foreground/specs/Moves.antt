@@ -1,7 +1,7 @@
 -- What a supervisor does to its terminal: sequences of POSIX's calls, with signal 22 ignored for each write.
 use Rattle.std.specs.Prelude.{ℕ, Ok, Err, Result, ⊤}
 use Rattle.host.specs.declared.fault.Fault.{Fault}
-use Rattle.foreground.specs.declared.process.Handling.TheVariants.{Ignored}
+use Rattle.foreground.specs.declared.disposition.Handling.TheVariants.{Ignored}
 use Rattle.foreground.specs.Posix.{Tty, tcsetpgrp, tcsetattr, continue_group}
 
 -- a call with signal 22 ignored; the former handling is put back, whatever the call answers

@@ -39,4 +39,4 @@ few_grants None = omega arith
 few_grants (Some settings) = omega arith
 
 pub sound : (t : SimulatedTerminal) → IsTerminal (book_of (view t))
-sound t = (t.console.process.group.low, few_grants t.saved)
+sound t = (t.console.own.low, few_grants t.saved)

@@ -3,15 +3,15 @@ ghost use Rattle.std.specs.Prelude.{◌≡◌, ◌≢◌, true, if◌then◌else
 ghost use Rattle.host.specs.Calls as Calls;
 ghost use Rattle.host.specs.Fault.{fault};
 ghost use Rattle.std.specs.Option.{option_map};
-ghost use Rattle.foreground.specs.Session.{in_session};
+ghost use Rattle.foreground.specs.Session.{is_in_session};
 ghost use Rattle.foreground.specs.View.{number};
 ghost use Rattle.foreground.specs.Simulated.{Did, book_of, count_call, fresh_terminal, view};
 ghost use Rattle.foreground.specs.SimulatedBook;
 
 use crate::console::Console;
 use crate::device::{Device, NOT_PERMITTED};
+use crate::disposition::{Disposition, Handling};
 use crate::group::Group;
-use crate::process::{Handling, Process};
 use crate::session::{Member, NoPlace, Session};
 use host::fault::Fault;
 use host::terminal::Terminal;
@@ -35,8 +35,8 @@ impl SimulatedTerminal {
     {
         SimulatedTerminal {
             console: Console {
-                process: Process {
-                    group: own,
+                own,
+                disposition: Disposition {
                     handling: Handling::Default,
                 },
                 device: Device {
@@ -74,14 +74,7 @@ impl SimulatedTerminal {
     pub fn set_handling(&mut self, handling: Handling)
         ensures { let s = view self.old in view self.new ≡ record s { tty = record s.tty { handling = handling } } }
     {
-        self.console.process.handling = handling;
-    }
-
-    // The settings that the open grant will restore; with none, no grant is open.
-    pub fn set_saved(&mut self, saved: Option<u32>)
-        ensures { view self.new ≡ record (view self.old) { saved = saved } }
-    {
-        self.saved = saved;
+        self.console.disposition.handling = handling;
     }
 }
 
@@ -95,7 +88,7 @@ impl Terminal for SimulatedTerminal {
     ghost sound = { SimulatedBook.sound };
 
     fn own_group(&self) -> u32 {
-        self.console.process.group.number
+        self.console.own.number
     }
 
     fn owner(&mut self) -> Option<u32> {
@@ -111,7 +104,7 @@ impl Terminal for SimulatedTerminal {
         ensures same_settings { (view self.new).tty.settings ≡ (view self.old).tty.settings }
         ensures never_stopped { result ≢ Err (fault 4) }
         ensures outside { result ≡ Err (fault 1) → view self.new ≡ count_call (view self.old) }
-        ensures empty { let t = (view self.old).tty in result ≡ Err (fault 3) → in_session t.own t.groups ≡ true → (view self.new).tty.foreground ≡ Some t.own }
+        ensures empty { let t = (view self.old).tty in result ≡ Err (fault 3) → is_in_session t.own t.groups ≡ true → (view self.new).tty.foreground ≡ Some t.own }
     {
         self.served += 1;
         if self.saved.is_some() {
@@ -133,7 +126,7 @@ impl Terminal for SimulatedTerminal {
         ensures same_handling { (view self.new).tty.handling ≡ (view self.old).tty.handling }
         ensures settings { (view self.new).tty.settings ≡ unwrap_or (view self.old).saved (view self.old).tty.settings }
         ensures closed { (view self.new).saved ≡ None }
-        ensures foreground { let t = (view self.old).tty in is_some (view self.old).saved ≡ true → in_session t.own t.groups ≡ true → (view self.new).tty.foreground ≡ Some t.own }
+        ensures foreground { let t = (view self.old).tty in is_some (view self.old).saved ≡ true → is_in_session t.own t.groups ≡ true → (view self.new).tty.foreground ≡ Some t.own }
     {
         self.served += 1;
         if let Some(settings) = self.saved.take() {

@@ -33,7 +33,7 @@ fn state_of(terminal: &SimulatedTerminal) -> State {
         foreground: terminal.console.device.foreground,
         settings: terminal.console.device.settings,
         grant: terminal.saved.is_some(),
-        handling: terminal.console.process.handling,
+        handling: terminal.console.disposition.handling,
     }
 }
 
@@ -118,7 +118,7 @@ fn settings_are_restored_from_the_background(rt: HostRuntime) {
 }
 
 fn handling_of(terminal: &SimulatedTerminal) -> Handling {
-    terminal.console.process.handling
+    terminal.console.disposition.handling
 }
 
 #[test]
@@ -197,13 +197,16 @@ fn a_background_write_is_stopped(rt: HostRuntime) {
     terminal.set_foreground(None);
     let before = state_of(&terminal);
     for handling in [Handling::Default, Handling::Caught] {
-        let caller = Process {
-            group: OWN,
-            handling,
-        };
+        let disposition = Disposition { handling };
         let device = &mut terminal.console.device;
-        assert_eq!(rt; device.tcsetpgrp(&caller, OWN), Err(Fault { code: 4 }));
-        assert_eq!(rt; device.tcsetattr(&caller, 8), Err(Fault { code: 4 }));
+        assert_eq!(rt;
+            device.tcsetpgrp(OWN, disposition, OWN),
+            Err(Fault { code: 4 })
+        );
+        assert_eq!(rt;
+            device.tcsetattr(OWN, disposition, 8),
+            Err(Fault { code: 4 })
+        );
         assert_eq!(rt; state_of(&terminal), before);
     }
 }

@@ -4,11 +4,11 @@ use Rattle.std.proofs.lemmas.Grind.{common_steps}
 use Rattle.host.specs.Fault.{fault}
 use Rattle.foreground.specs.View.{tty}
 use Rattle.foreground.proofs.Giving.{empty_gives_back}
-use Rattle.foreground.proofs.Sessions.{no_group-in_session}
+use Rattle.foreground.proofs.Sessions.{is_in_session-no_group}
 use Rattle.foreground.proofs.simulated.SimulatedTerminalTerminal.acquire.Goals as goal
 
 pub returns-in_default : goal.returns-in_default
-returns-in_default c = grind (arith, common_steps, nat_tests, no_group-in_session c.args.group c.args.self.now.console.device.session.places)
+returns-in_default c = grind (arith, common_steps, nat_tests, is_in_session-no_group c.args.group c.args.self.now.console.device.session.places)
 
 pub returns-in_err-give-clause-empty : goal.returns-in_err-give-clause-empty
 returns-in_err-give-clause-empty c = λ fails stands.
