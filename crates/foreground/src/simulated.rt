@@ -83,7 +83,7 @@ impl Terminal for SimulatedTerminal {
 
     ghost did = { Did };
 
-    ghost keeps = { SimulatedBook.keeps_so };
+    ghost keeps = { SimulatedBook.keeps_book };
 
     ghost sound = { SimulatedBook.sound };
 
