@@ -7,7 +7,7 @@ use Rattle.foreground.specs.declared.disposition.Handling.TheVariants.{Default, 
 use Rattle.foreground.specs.declared.session.Member.{Member}
 use Rattle.foreground.specs.Session.{is_in_session, has_process}
 
--- the caller's process group and what the caller does with signal 22 (SIGTTOU); the group that has the foreground, if one has
+-- the caller's process group, and what its disposition of signal 22 (SIGTTOU) says; the group that has the foreground, if one has
 -- it; the terminal's attributes; and the groups of its session
 pub record Tty : Type 0 where
   pub own : ℕ

@@ -1,7 +1,8 @@
 -- The groups of a session, in its places.
-use Rattle.std.specs.Prelude.{ℕ, ◌==◌, ◌&&◌, not, Bool, false, List, Some, None, Option}
+use Rattle.std.specs.Prelude.{ℕ, ◌==◌, ◌&&◌, not, nat_lt, if◌then◌else◌, Bool, false, List, slice_set, Some, None, Option, Ok, Err, Result, ⊤}
 use Rattle.std.specs.List.{list_any}
 use Rattle.foreground.specs.declared.session.Member.{Member}
+use Rattle.foreground.specs.declared.session.NoPlace.{NoPlace}
 
 -- whether a place has the group n
 abbrev pub has_group : ℕ → Option Member → Bool
@@ -20,3 +21,7 @@ has_nonempty_group n (Some m) = m.group.number == n && not m.empty
 -- whether the group has a process
 abbrev pub has_process : ℕ → List (Option Member) → Bool
 has_process n places = list_any (has_nonempty_group n) places
+
+-- a group, or none, is put into a place, of which there are 16
+abbrev pub put : ℕ → Option Member → List (Option Member) → Result ⊤ NoPlace × List (Option Member)
+put place member places = if nat_lt place 16 then (Ok tt, slice_set places place member) else (Err (record { place = place }), places)

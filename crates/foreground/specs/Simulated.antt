@@ -23,7 +23,11 @@ view t = record { tty = tty t.console; saved = t.saved; served = t.served.0 }
 
 -- a new one: nobody has its foreground, and no group is in its session
 abbrev pub fresh_terminal : ℕ → TerminalView
-fresh_terminal own = record { tty = record { own = own; handling = Default; foreground = None; settings = 0; groups = replicate 16 None }; saved = None; served = 0 }
+fresh_terminal own = record {
+  tty = record { own = own; handling = Default; foreground = None; settings = 0; groups = replicate 16 None };
+  saved = None;
+  served = 0;
+}
 
 -- its book: a grant is open as long as settings are saved
 

@@ -23,7 +23,7 @@ serve_keeps t owner = record { moved = refl; fits = owner_fits (book_of (view t)
 serve_keeps t (acquire group) = record { moved = grind (arith, nat_tests); fits = grind (arith, nat_tests) }
 serve_keeps t release = record { moved = grind (arith, nat_tests); fits = tt }
 
-pub keeps_book : (t : SimulatedTerminal) (c : TerminalCall) (a : TerminalReply c) (u : SimulatedTerminal) → Did t c a u → TerminalKeeps (book_of (view t)) c a (book_of (view u))
+pub keeps_book : (t : SimulatedTerminal) (c : TerminalCall) (a : TerminalReply c) (u : SimulatedTerminal) → Did t c a u → Keeps (view t) c (a, view u)
 keeps_book t c a u did = subst (Keeps (view t) c) (sym did) (serve_keeps t c)
 
 pub sound : (t : SimulatedTerminal) → IsTerminal (book_of (view t))

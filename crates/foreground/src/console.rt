@@ -19,7 +19,8 @@ pub(crate) struct Console {
 
 impl Console {
     fn move_to(&mut self, group: Group) -> Result<(), Fault>
-        ensures { (result, tty self.new) ≡ with_ignored (Posix.tcsetpgrp group.number) (tty self.old) }
+        ensures { (result, tty self.new)
+            ≡ with_ignored (Posix.tcsetpgrp group.number) (tty self.old) }
     {
         let ignoring = Ignoring::new(&mut self.disposition);
         self.device

@@ -25,8 +25,8 @@ pub(crate) struct Session {
 }
 
 impl Session {
-    ghost use Rattle.std.specs.Prelude.{nat_lt, if◌then◌else◌, replicate, slice_set};
-    ghost use Rattle.foreground.specs.Session.{is_in_session, has_process};
+    ghost use Rattle.std.specs.Prelude.{replicate};
+    ghost use Rattle.foreground.specs.Session.{has_process, is_in_session, put};
 
     pub(crate) fn new() -> Self
         ensures { result.places ≡ replicate 16 None }
@@ -54,8 +54,7 @@ impl Session {
     }
 
     pub(crate) fn put(&mut self, place: usize, member: Option<Member>) -> Result<(), NoPlace>
-        ensures answer { result ≡ (if nat_lt place 16 then Ok tt else Err (record { place = place })) }
-        ensures after { self.new.places ≡ (if nat_lt place 16 then slice_set self.old.places place member else self.old.places) }
+        ensures { (result, self.new.places) ≡ put place member self.old.places }
     {
         if place >= PLACES {
             return Err(NoPlace { place });

@@ -1,9 +1,10 @@
 // The simulated terminal: a terminal's values, on which POSIX's calls are made.
-ghost use Rattle.std.specs.Prelude.{◌≡◌, ◌≢◌, true, if◌then◌else◌, is_some, nat_lt, slice_set, unwrap_or};
+ghost use Rattle.std.specs.Prelude.{◌≡◌, ◌≢◌, true, is_some, unwrap_or};
 ghost use Rattle.host.specs.Calls as Calls;
 ghost use Rattle.host.specs.Fault.{fault};
 ghost use Rattle.std.specs.Option.{option_map};
-ghost use Rattle.foreground.specs.Session.{is_in_session};
+ghost use Rattle.foreground.specs.Moves.{TakesBack};
+ghost use Rattle.foreground.specs.Session.{put};
 ghost use Rattle.foreground.specs.View.{number};
 ghost use Rattle.foreground.specs.Simulated.{Did, book_of, count_call, fresh_terminal, view};
 ghost use Rattle.foreground.specs.SimulatedBook;
@@ -51,28 +52,32 @@ impl SimulatedTerminal {
     }
 
     pub fn set_foreground(&mut self, group: Option<Group>)
-        ensures { let s = view self.old in view self.new ≡ record s { tty = record s.tty { foreground = option_map number group } } }
+        ensures { let s = view self.old in
+            view self.new ≡ record s { tty = record s.tty { foreground = option_map number group } } }
     {
         self.console.device.foreground = group;
     }
 
     pub fn set_settings(&mut self, settings: u32)
-        ensures { let s = view self.old in view self.new ≡ record s { tty = record s.tty { settings = settings } } }
+        ensures { let s = view self.old in
+            view self.new ≡ record s { tty = record s.tty { settings = settings } } }
     {
         self.console.device.settings = settings;
     }
 
     // Puts a group into a place of the session, or none; there are sixteen places, from 0 on.
     pub fn set_place(&mut self, place: usize, member: Option<Member>) -> Result<(), NoPlace>
-        ensures answer { result ≡ (if nat_lt place 16 then Ok tt else Err (record { place = place })) }
-        ensures after { let s = view self.old in view self.new ≡ record s { tty = record s.tty { groups = if nat_lt place 16 then slice_set s.tty.groups place member else s.tty.groups } } }
+        ensures answer { result ≡ (put place member (view self.old).tty.groups).0 }
+        ensures after { let s = view self.old in
+            view self.new ≡ record s { tty = record s.tty { groups = (put place member s.tty.groups).1 } } }
     {
         self.console.device.session.put(place, member)
     }
 
     // What the supervisor's process does with signal 22.
     pub fn set_handling(&mut self, handling: Handling)
-        ensures { let s = view self.old in view self.new ≡ record s { tty = record s.tty { handling = handling } } }
+        ensures { let s = view self.old in
+            view self.new ≡ record s { tty = record s.tty { handling = handling } } }
     {
         self.console.disposition.handling = handling;
     }
@@ -104,7 +109,7 @@ impl Terminal for SimulatedTerminal {
         ensures same_settings { (view self.new).tty.settings ≡ (view self.old).tty.settings }
         ensures never_stopped { result ≢ Err (fault 4) }
         ensures outside { result ≡ Err (fault 1) → view self.new ≡ count_call (view self.old) }
-        ensures empty { let t = (view self.old).tty in result ≡ Err (fault 3) → is_in_session t.own t.groups ≡ true → (view self.new).tty.foreground ≡ Some t.own }
+        ensures empty { result ≡ Err (fault 3) → TakesBack (view self.old).tty (view self.new).tty }
     {
         self.served += 1;
         if self.saved.is_some() {
@@ -124,9 +129,11 @@ impl Terminal for SimulatedTerminal {
     fn release(&mut self)
         ensures did { Did self.old Calls.release result self.new }
         ensures same_handling { (view self.new).tty.handling ≡ (view self.old).tty.handling }
-        ensures settings { (view self.new).tty.settings ≡ unwrap_or (view self.old).saved (view self.old).tty.settings }
+        ensures settings { let s = view self.old in
+            (view self.new).tty.settings ≡ unwrap_or s.saved s.tty.settings }
         ensures closed { (view self.new).saved ≡ None }
-        ensures foreground { let t = (view self.old).tty in is_some (view self.old).saved ≡ true → is_in_session t.own t.groups ≡ true → (view self.new).tty.foreground ≡ Some t.own }
+        ensures foreground { let s = view self.old in
+            is_some s.saved ≡ true → TakesBack s.tty (view self.new).tty }
     {
         self.served += 1;
         if let Some(settings) = self.saved.take() {
