@@ -12,7 +12,7 @@ use host::fault::Fault;
 pub(crate) const NOT_PERMITTED: Fault = Fault { code: 1 };
 
 // The group has no process (ESRCH).
-pub(crate) const NO_PROCESS: Fault = Fault { code: 3 };
+const NO_PROCESS: Fault = Fault { code: 3 };
 
 #[derive(Drop)]
 pub(crate) struct Device {

@@ -40,17 +40,18 @@ impl Session {
     pub(crate) fn has(&self, group: Group) -> bool
         ensures { result ≡ is_in_session group.number self.now.places }
     {
-        self.places.iter().any(|place| place.is_some_and(|member| member.group.number
-            == group.number))
+        self.places.iter().any(|place| {
+            place.is_some_and(|member| member.group.number == group.number)
+        })
     }
 
     // Whether the group stands in one of the places, and isn't empty there.
     pub(crate) fn has_process(&self, group: Group) -> bool
         ensures { result ≡ has_process group.number self.now.places }
     {
-        self.places.iter().any(|place| place.is_some_and(|member| member.group.number
-            == group.number
-            && !member.empty))
+        self.places.iter().any(|place| {
+            place.is_some_and(|member| member.group.number == group.number && !member.empty)
+        })
     }
 
     pub(crate) fn put(&mut self, place: usize, member: Option<Member>) -> Result<(), NoPlace>

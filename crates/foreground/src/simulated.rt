@@ -53,7 +53,8 @@ impl SimulatedTerminal {
 
     pub fn set_foreground(&mut self, group: Option<Group>)
         ensures { let s = view self.old in
-            view self.new ≡ record s { tty = record s.tty { foreground = option_map number group } } }
+            let tty = record s.tty { foreground = option_map number group } in
+            view self.new ≡ record s { tty = tty } }
     {
         self.console.device.foreground = group;
     }
@@ -69,7 +70,8 @@ impl SimulatedTerminal {
     pub fn set_place(&mut self, place: usize, member: Option<Member>) -> Result<(), NoPlace>
         ensures answer { result ≡ (put place member (view self.old).tty.groups).0 }
         ensures after { let s = view self.old in
-            view self.new ≡ record s { tty = record s.tty { groups = (put place member s.tty.groups).1 } } }
+            let tty = record s.tty { groups = (put place member s.tty.groups).1 } in
+            view self.new ≡ record s { tty = tty } }
     {
         self.console.device.session.put(place, member)
     }
