@@ -1,5 +1,5 @@
 -- The book of the simulated terminal keeps its rules.
-use Rattle.std.specs.Prelude.{ℕ, ◌≤◌, Some, None, Option, refl}
+use Rattle.std.specs.Prelude.{ℕ, Some, None, Option, refl}
 use Rattle.std.specs.Option.{option_map}
 use Rattle.std.proofs.Common.{subst, sym, arith}
 use Rattle.std.proofs.lemmas.Bool.Decides.{nat_tests}

@@ -51,8 +51,8 @@ impl Device {
         disposition: Disposition,
         group: Group,
     ) -> Result<(), Fault>
-        ensures { let view = tty_of own disposition in
-            (result, view self.new) ≡ Posix.tcsetpgrp group.number (view self.old) }
+        ensures { let tty = tty_of own disposition in
+            (result, tty self.new) ≡ Posix.tcsetpgrp group.number (tty self.old) }
     {
         if self.stops(own, disposition) {
             return Err(Fault::INTERRUPTED);
@@ -70,8 +70,8 @@ impl Device {
         disposition: Disposition,
         settings: u32,
     ) -> Result<(), Fault>
-        ensures { let view = tty_of own disposition in
-            (result, view self.new) ≡ Posix.tcsetattr settings (view self.old) }
+        ensures { let tty = tty_of own disposition in
+            (result, tty self.new) ≡ Posix.tcsetattr settings (tty self.old) }
     {
         if self.stops(own, disposition) {
             return Err(Fault::INTERRUPTED);

@@ -1,8 +1,8 @@
 // The simulated terminal: a terminal's values, on which POSIX's calls are made.
 ghost use Rattle.std.specs.Prelude.{◌≡◌, ◌≢◌, true, is_some, unwrap_or};
+ghost use Rattle.std.specs.Option.{option_map};
 ghost use Rattle.host.specs.Calls as Calls;
 ghost use Rattle.host.specs.Fault.{fault};
-ghost use Rattle.std.specs.Option.{option_map};
 ghost use Rattle.foreground.specs.Moves.{TakesBack};
 ghost use Rattle.foreground.specs.Session.{put};
 ghost use Rattle.foreground.specs.View.{number};
