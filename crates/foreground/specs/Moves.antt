@@ -1,16 +1,21 @@
 -- What a supervisor does to its terminal: sequences of POSIX's calls, with signal 22 ignored for each write.
-use Rattle.std.specs.Prelude.{ℕ, Ok, Err, Result, ⊤}
+use Rattle.std.specs.Prelude.{◌≡◌, ℕ, true, Some, Ok, Err, Result, ⊤}
 use Rattle.host.specs.declared.fault.Fault.{Fault}
-use Rattle.foreground.specs.declared.process.Handling.TheVariants.{Ignored}
+use Rattle.foreground.specs.declared.disposition.Handling.TheVariants.{Ignored}
+use Rattle.foreground.specs.Session.{is_in_session}
 use Rattle.foreground.specs.Posix.{Tty, tcsetpgrp, tcsetattr, continue_group}
 
--- a call with signal 22 ignored; the former handling is put back, whatever the call answers
+-- a call with signal 22 ignored; the former disposition is put back, whatever the call answers
 abbrev pub with_ignored : (Tty → Result ⊤ Fault × Tty) → Tty → Result ⊤ Fault × Tty
 with_ignored call t = let done = call (record t { handling = Ignored }) in (done.0, record (done.1) { handling = t.handling })
 
 -- the foreground is moved to the own group; where that fails, it stays
 abbrev pub take_back : Tty → Tty
 take_back t = (with_ignored (tcsetpgrp t.own) t).1
+
+-- the own group has the foreground after it, if it is in the session
+abbrev pub TakesBack : Tty → Tty → Type 0
+TakesBack t t' = is_in_session t.own t.groups ≡ true → t'.foreground ≡ Some t.own
 
 -- the settings become these
 abbrev pub restore : ℕ → Tty → Tty

@@ -4,7 +4,7 @@ use Rattle.host.specs.Fault.{fault}
 use Rattle.host.specs.declared.fault.Fault.{Fault}
 use Rattle.host.specs.Calls.{TerminalCall, owner, acquire, release, TerminalReply}
 use Rattle.host.specs.Books.{TerminalBook, next_count}
-use Rattle.foreground.specs.declared.process.Handling.TheVariants.{Default}
+use Rattle.foreground.specs.declared.disposition.Handling.TheVariants.{Default}
 use Rattle.foreground.specs.declared.simulated.SimulatedTerminal.{SimulatedTerminal}
 use Rattle.foreground.specs.View.{tty}
 use Rattle.foreground.specs.Posix.{Tty, tcgetpgrp, tcgetattr}
@@ -23,7 +23,11 @@ view t = record { tty = tty t.console; saved = t.saved; served = t.served.0 }
 
 -- a new one: nobody has its foreground, and no group is in its session
 abbrev pub fresh_terminal : ℕ → TerminalView
-fresh_terminal own = record { tty = record { own = own; handling = Default; foreground = None; settings = 0; groups = replicate 16 None }; saved = None; served = 0 }
+fresh_terminal own = record {
+  tty = record { own = own; handling = Default; foreground = None; settings = 0; groups = replicate 16 None };
+  saved = None;
+  served = 0;
+}
 
 -- its book: a grant is open as long as settings are saved
 
@@ -40,21 +44,21 @@ abbrev pub open_grant : ℕ → TerminalView → Result ⊤ Fault × Tty → Res
 open_grant settings s (Ok u, t) = (Ok tt, record s { tty = t; saved = Some settings })
 open_grant settings s (Err f, t) = (Err f, record s { tty = t })
 
-abbrev pub acquire_from : ℕ → TerminalView → Result ⊤ Fault × TerminalView
-acquire_from group s = if is_some s.saved then (Err (fault 16), s) else open_grant (tcgetattr s.tty) s (give group s.tty)
+abbrev pub acquire_group : ℕ → TerminalView → Result ⊤ Fault × TerminalView
+acquire_group group s = if is_some s.saved then (Err (fault 16), s) else open_grant (tcgetattr s.tty) s (give group s.tty)
 
 -- RELEASE: with a grant open, the foreground is taken back and the saved settings are restored
 
-abbrev pub release_saved : Option ℕ → TerminalView → TerminalView
-release_saved None s = s
-release_saved (Some settings) s = record s { tty = restore settings (take_back s.tty); saved = None }
+abbrev pub close_grant : Option ℕ → TerminalView → TerminalView
+close_grant None s = s
+close_grant (Some settings) s = record s { tty = restore settings (take_back s.tty); saved = None }
 
 -- what a call is answered and leaves, apart from the count
 
 abbrev pub serve : TerminalView → (c : TerminalCall) → TerminalReply c × TerminalView
 serve s owner = (tcgetpgrp s.tty, s)
-serve s (acquire group) = acquire_from group s
-serve s release = (tt, release_saved s.saved s)
+serve s (acquire group) = acquire_group group s
+serve s release = (tt, close_grant s.saved s)
 
 abbrev pub count_call : TerminalView → TerminalView
 count_call s = record s { served = next_count s.served }

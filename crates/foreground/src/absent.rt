@@ -2,7 +2,7 @@
 ghost use Rattle.std.specs.Prelude.{◌≡◌};
 ghost use Rattle.std.proofs.Common.{rules};
 ghost use Rattle.foreground.specs.Absent.{Did, answer, book_of, fresh_book};
-ghost use Rattle.foreground.specs.Book.{keeps_book};
+ghost use Rattle.foreground.specs.AbsentBook.{keeps_book};
 
 use host::fault::Fault;
 use host::terminal::Terminal;
