@@ -50,17 +50,21 @@ takes : (time : ℕ) (t : Timer) (m : MailboxView) (r : Received) (n : MailboxVi
 takes time t m r n e f = record { due = λ l. grind (arith, common_steps); early = λ l. grind (arith, common_steps) }
 
 -- an outcome that sets no timer leaves timer and queues
-settle_leaves : (time : ℕ) (o : Outcome) (ticket : ℕ) (m : MailboxView) → is_graced o ≡ false → ((settle time o ticket m).timer ≡ m.timer) × ((settle time o ticket m).queues ≡ m.queues)
+settle_leaves : (time : ℕ) (o : Outcome) (ticket : ℕ) (m : MailboxView) → is_graced o ≡ false → ((settle time o ticket m).timer ≡ m.timer)
+    × ((settle time o ticket m).queues ≡ m.queues)
 settle_leaves time o ticket m h = grind (arith, common_steps)
 
 -- while the timer t is pending, what is taken sets none
-calm : (time : ℕ) (t : Timer) (m : MailboxView) (r : Received) (n : MailboxView) (o : Outcome) → m.timer ≡ Some t → Takes time t m r n → InHand r n → MaySetTimer r.message.control o → is_graced o ≡ false
+calm : (time : ℕ) (t : Timer) (m : MailboxView) (r : Received) (n : MailboxView) (o : Outcome) → m.timer ≡ Some t → Takes time t m r n → InHand r n
+    → MaySetTimer r.message.control o → is_graced o ≡ false
 calm time t m r n o e k h f = grind (arith, common_steps, k.due, k.early, h.free, f)
 
 -- what a control leaves that was carried out while a timer is pending
-carried_law : (time : ℕ) (v : JobView) (r : Received) (n : MailboxView) → InHand r n → Mail.take time v.mailbox ≡ Some (r, n) → (x : TaskView × Outcome) → MaySetTimer r.message.control x.1 → TakesWhenDue time v (control_end time r n x).view × NormalWaits v (control_end time r n x).view
+carried_law : (time : ℕ) (v : JobView) (r : Received) (n : MailboxView) → InHand r n → Mail.take time v.mailbox ≡ Some (r, n) → (x : TaskView × Outcome)
+    → MaySetTimer r.message.control x.1 → TakesWhenDue time v (control_end time r n x).view × NormalWaits v (control_end time r n x).view
 carried_law time v r n h e x f =
-    let leaves = λ (t : Timer) (p : Pends t v). settle_leaves time x.1 r.message.ticket n (calm time t v.mailbox r n x.1 p (takes time t v.mailbox r n p e) h f) in (
+    let leaves = λ (t : Timer) (p : Pends t v). settle_leaves time x.1 r.message.ticket n (calm time t v.mailbox r n x.1 p (takes time t v.mailbox r n p e) h f)
+        in (
       record {
         due = λ t p l. grind (arith, leaves t p, (takes time t v.mailbox r n p e).due l);
         early = λ t p l. grind (arith, leaves t p, (takes time t v.mailbox r n p e).early l);
@@ -69,23 +73,28 @@ carried_law time v r n h e x f =
     )
 
 -- a timer that is due is taken
-idle_law : (time : ℕ) (v : JobView) → Mail.take time v.mailbox ≡ None → TakesWhenDue time v (record v { clock = time }) × NormalWaits v (record v { clock = time })
+idle_law : (time : ℕ) (v : JobView) → Mail.take time v.mailbox ≡ None → TakesWhenDue time v (record v { clock = time }) × NormalWaits v
+    (record v { clock = time })
 idle_law time v e = (record { due = λ t p l. grind (arith, common_steps); early = λ t p l. refl }, λ t p. refl)
 
 -- what the laws say of the job that a control step leaves
-pub control_law : (time : ℕ) (v : JobView) (b : Books) (s : StepEnd) → IsInOrder [] v.mailbox → Way time v Control b s → TakesWhenDue time v s.view × NormalWaits v s.view
+pub control_law : (time : ℕ) (v : JobView) (b : Books) (s : StepEnd) → IsInOrder [] v.mailbox → Way time v Control b s → TakesWhenDue time v s.view
+    × NormalWaits v s.view
 control_law time v b s h (None, e, w) = rw w.1 (idle_law time v e)
 control_law time v b s h (Some (r, n), e, w) = rw w.2 (carried_law time v r n (take_in time v.mailbox r n h e) e w.0 w.1.timed)
 
 -- a timer that is due is taken
-pub take_now : (time : ℕ) (t : Timer) (m : MailboxView) → m.timer ≡ Some t → t.deadline ≤ time → Mail.take time m ≡ Some (message_from (timer_message t) Sources.Timer, with_timer None m)
+pub take_now : (time : ℕ) (t : Timer) (m : MailboxView) → m.timer ≡ Some t → t.deadline ≤ time
+    → Mail.take time m ≡ Some (message_from (timer_message t) Sources.Timer, with_timer None m)
 take_now time t m e l = grind (arith, common_steps)
 
 -- the message of a restart's timer is carried out once it is due
-pub continue_way : (time : ℕ) (t : Timer) (v : JobView) (b : Books) (s : StepEnd) → Pends t v → t.end ≡ Restart → t.deadline ≤ time → Way time v Control b s → (x : TaskView × Outcome) × Carried ContinueTryGracefulRestart (is_running v.task.state) b x
+pub continue_way : (time : ℕ) (t : Timer) (v : JobView) (b : Books) (s : StepEnd) → Pends t v → t.end ≡ Restart → t.deadline ≤ time → Way time v Control b s
+    → (x : TaskView × Outcome) × Carried ContinueTryGracefulRestart (is_running v.task.state) b x
 continue_way time t v b s p e l (k, taken, w) =
     let now = take_now time t v.mailbox p l in
-    let way : ControlWay time v (Some (message_from (timer_message t) Sources.Timer, with_timer None v.mailbox)) b s = subst (λ (k : TakeResult). ControlWay time v k b s) (sym taken ∙ now) w in
+    let way : ControlWay time v (Some (message_from (timer_message t) Sources.Timer, with_timer None v.mailbox)) b s =
+        subst (λ (k : TakeResult). ControlWay time v k b s) (sym taken ∙ now) w in
     (way.0, subst (λ (c : AnyControl). Carried c (is_running v.task.state) b way.0) (ap control_at_end e) way.1)
 
 -- what starts or fails is a spawn, or a failure
@@ -96,7 +105,8 @@ starts_and_failures (r ∷ rs) = grind (arith, common_steps, starts_and_failures
 -- THE CHILD'S END
 
 -- the ticket of the timer, which was held and waited, is raised once the child has ended
-ended_found : (t : Timer) (m : MailboxView) → m.timer ≡ Some t → mark_of t.ticket m.tickets.table ≡ Some Held → mark_of t.ticket (raise_at_end m).tickets.table ≡ Some Raised
+ended_found : (t : Timer) (m : MailboxView) → m.timer ≡ Some t → mark_of t.ticket m.tickets.table ≡ Some Held → mark_of t.ticket (raise_at_end m).tickets.table
+    ≡ Some Raised
 ended_found t m e h =
     let n = raise_timer (Some t) m in
     rw e (raise_each-keeps t.ticket n.ending n.tickets.table (raise-held t.ticket m.tickets.table h))
@@ -120,11 +130,14 @@ raised_told : (ticket : ℕ) (v : JobView) → mark_of ticket v.mailbox.tickets.
 raised_told ticket v h = grind (arith, h)
 
 -- what a child step makes of a pending timer, where a poll found an end
-end_law : (time : ℕ) (v : JobView) (x : TaskView × PollOutcome) (t : Timer) → Pends t v → found_end x.1 ≡ true → let v' = (poll_end time v x).view in (v'.mailbox.timer ≡ None) × (look t.ticket v ≡ Ok false → look t.ticket v' ≡ Ok true)
-end_law time v (k, Over) t p l = (ended_timer v.mailbox, λ w. raised_told t.ticket (poll_end time v (k, Over)).view (ended_found t v.mailbox p (told_held t.ticket v w)))
+end_law : (time : ℕ) (v : JobView) (x : TaskView × PollOutcome) (t : Timer) → Pends t v → found_end x.1 ≡ true → let v' = (poll_end time v x).view in
+    (v'.mailbox.timer ≡ None) × (look t.ticket v ≡ Ok false → look t.ticket v' ≡ Ok true)
+end_law time v (k, Over) t p l =
+    (ended_timer v.mailbox, λ w. raised_told t.ticket (poll_end time v (k, Over)).view (ended_found t v.mailbox p (told_held t.ticket v w)))
 end_law time v (k, Renewed) t p l = (
   again_timer (memory v.mailbox.timer) (raise_at_end v.mailbox) ∙ ended_timer v.mailbox,
-  λ w. raised_told t.ticket (poll_end time v (k, Renewed)).view (again_found t.ticket (memory v.mailbox.timer) (raise_at_end v.mailbox) (ended_found t v.mailbox p (told_held t.ticket v w))),
+  λ w. raised_told t.ticket (poll_end time v (k, Renewed)).view (again_found t.ticket (memory v.mailbox.timer) (raise_at_end v.mailbox)
+      (ended_found t v.mailbox p (told_held t.ticket v w))),
 )
 end_law time v (k, o) t p l = absurd (cc l)
 
@@ -132,22 +145,27 @@ end_law time v (k, o) t p l = absurd (cc l)
 
 module _ {H T : Type 0} {by_host : Host.Ghosts H} {by_terminal : Terminal.Ghosts T} where
   -- the laws of an accepted control step, by what it wrote
-  pub control_accepted : (time : ℕ) (a b : Moment H T) (s : Stepped) → IsInOrder [] (job_view a.job).mailbox → Steps by_host by_terminal (control_step time (job_view a.job)) a s b → TakesWhenDue time (job_view a.job) (job_view b.job) × NormalWaits (job_view a.job) (job_view b.job) × Continues time (job_view a.job) (take s.records b.sheet)
+  pub control_accepted : (time : ℕ) (a b : Moment H T) (s : Stepped) → IsInOrder [] (job_view a.job).mailbox
+      → Steps by_host by_terminal (control_step time (job_view a.job)) a s b → TakesWhenDue time (job_view a.job) (job_view b.job) × NormalWaits
+      (job_view a.job) (job_view b.job) × Continues time (job_view a.job) (take s.records b.sheet)
   control_accepted time a b s h k =
       let v = job_view a.job in
       let way = way_of Control 0 time a b s k in
       let laws = control_law time v _ (step_end b.job s) h way in (
         laws.0,
         laws.1,
-        λ t p e l. rw (records_are k.conducts) (starts_and_failures (journal k.conducts.trace) ∙ (continue_way time t v _ (step_end b.job s) p e l way).1.continued.0),
+        λ t p e l. rw (records_are k.conducts) (starts_and_failures (journal k.conducts.trace)
+            ∙ (continue_way time t v _ (step_end b.job s) p e l way).1.continued.0),
       )
 
   -- and of an accepted child step
-  pub child_accepted : (time : ℕ) (a b : Moment H T) (s : Stepped) → Steps by_host by_terminal (child_step time (job_view a.job)) a s b → RaisesAtEnd (job_view a.job) (take s.records b.sheet) (job_view b.job)
+  pub child_accepted : (time : ℕ) (a b : Moment H T) (s : Stepped) → Steps by_host by_terminal (child_step time (job_view a.job)) a s b
+      → RaisesAtEnd (job_view a.job) (take s.records b.sheet) (job_view b.job)
   child_accepted time a b s k t p l =
       let way = way_of Child 0 time a b s k in
       let found : found_end way.0.1 ≡ true = some (found_end way.0.1) (omega (arith, way.1.ends, rw (records_are k.conducts) at l)) in
-      subst (λ (v : JobView). (v.mailbox.timer ≡ None) × (look t.ticket (job_view a.job) ≡ Ok false → look t.ticket v ≡ Ok true)) (sym (ap (λ e. e.view) way.2)) (end_law time (job_view a.job) way.0 t p found)
+      subst (λ (v : JobView). (v.mailbox.timer ≡ None) × (look t.ticket (job_view a.job) ≡ Ok false → look t.ticket v ≡ Ok true)) (sym (ap (λ e. e.view) way.2))
+          (end_law time (job_view a.job) way.0 t p found)
     where
       some : (o : Bool) → 1 ≤ from_bool o → o ≡ true
       some true h = refl

@@ -64,7 +64,8 @@ take_in time m r n h e = grind (arith, common_steps, less)
 
 -- OUTCOMES
 
-pub settle_in : (time : ℕ) (o : Outcome) (t : ℕ) (m : MailboxView) → IsInOrder (t ∷ []) m → (is_graced o ≡ true → m.timer ≡ None) → IsInOrder [] (settle time o t m)
+pub settle_in : (time : ℕ) (o : Outcome) (t : ℕ) (m : MailboxView) → IsInOrder (t ∷ []) m → (is_graced o ≡ true → m.timer ≡ None)
+    → IsInOrder [] (settle time o t m)
 settle_in time Settled t m h f = raise_in t [] m h
 settle_in time Ended t m h f = raise_in t [] (raise_endings m) (endings_in (t ∷ []) m h)
 settle_in time (Graced grace end) t m h f = grind (arith, f refl)
@@ -116,12 +117,14 @@ safe p c = not (sets_timer c)
 calm_enqueued : (p : Priority) (c : ControlMessage) (q : QueuesView) → safe p c.control ≡ true → IsCalm q → IsCalm (enqueue p c q)
 calm_enqueued p c q f h = grind (arith, common_steps, list_any-append)
 
-admit_in : (p : Priority) (c : Control) (held : Bool) (m : MailboxView) → serial_room 1 m ≡ true → safe p c ≡ true → IsInOrder [] m → IsInOrder [] (admit p c held m)
+admit_in : (p : Priority) (c : Control) (held : Bool) (m : MailboxView) → serial_room 1 m ≡ true → safe p c ≡ true → IsInOrder [] m
+    → IsInOrder [] (admit p c held m)
 admit_in p c held m room f h =
     let calm : IsCalm (admit p c held m).queues = calm_enqueued p (message c (m.tickets.issued + 1)) m.queues f h.calm in
     grind (arith, weigh_enqueued, put-weight, change-length, calm)
 
-admit_all_in : (p : Priority) (cs : List Control) (m : MailboxView) → serial_room (length cs) m ≡ true → list_all (safe p) cs ≡ true → IsInOrder [] m → IsInOrder [] (admit_all p cs m)
+admit_all_in : (p : Priority) (cs : List Control) (m : MailboxView) → serial_room (length cs) m ≡ true → list_all (safe p) cs ≡ true → IsInOrder [] m
+    → IsInOrder [] (admit_all p cs m)
 admit_all_in p [] m room f h = h
 admit_all_in p (c ∷ []) m room f h = admit_in p c true m room (grind arith) h
 admit_all_in p (c ∷ d ∷ cs) m room f h =

@@ -20,7 +20,9 @@ not_closed time places v e = grind (arith, common_steps)
 
 module _ {H T : Type 0} {by_host : Host.Ghosts H} {by_terminal : Terminal.Ghosts T} where
   -- a step that is not refused is accepted, once its tree was run
-  pub accepted : HostKept by_host → TerminalKept by_terminal → (kind : StepKind) (own time : ℕ) {a b : Moment H T} {s : Stepped} → may_step time (length a.sheet) (job_view a.job) ≡ Ok tt → Conducts by_host by_terminal (tree_of kind own time (job_view a.job)) (world_at a) a.sheet (step_end b.job s) s.records (world_at b) b.sheet → StepsOrRefuses by_host by_terminal (tree_of kind own) time a (Ok s) b
+  pub accepted : HostKept by_host → TerminalKept by_terminal → (kind : StepKind) (own time : ℕ) {a b : Moment H T} {s : Stepped}
+      → may_step time (length a.sheet) (job_view a.job) ≡ Ok tt → Conducts by_host by_terminal (tree_of kind own time (job_view a.job)) (world_at a) a.sheet
+      (step_end b.job s) s.records (world_at b) b.sheet → StepsOrRefuses by_host by_terminal (tree_of kind own) time a (Ok s) b
   accepted host_keeps terminal_keeps kind own time {a} {b} {s} may r =
       let v = job_view a.job in
       let tree = tree_of kind own time v in
@@ -36,7 +38,9 @@ module _ {H T : Type 0} {by_host : Host.Ghosts H} {by_terminal : Terminal.Ghosts
       )
 
   -- what an accepted step was
-  pub way_of : (kind : StepKind) (own time : ℕ) (a b : Moment H T) (s : Stepped) → (k : Steps by_host by_terminal (tree_of kind own time (job_view a.job)) a s b) → let t = (job_view a.job).task in Way time (job_view a.job) kind (after (fitting_host t) (fitting_terminal t) k.conducts.trace) (step_end b.job s)
+  pub way_of : (kind : StepKind) (own time : ℕ) (a b : Moment H T) (s : Stepped)
+      → (k : Steps by_host by_terminal (tree_of kind own time (job_view a.job)) a s b) → let t = (job_view a.job).task in
+      Way time (job_view a.job) kind (after (fitting_host t) (fitting_terminal t) k.conducts.trace) (step_end b.job s)
   way_of kind own time a b s k =
       let v = job_view a.job in
       way_traced time v (IsAnswered by_host by_terminal) kind own a.job.granted _ _ k.conducts.trace _ k.conducts.traces _ _ (fitting v.task)

@@ -45,14 +45,18 @@ module _ (time : ℕ) (v : JobView) where
     where
       by : (k : TakeResult) → take time v.mailbox ≡ k → Always moved (Way Control) b (carry_out k time v)
       by None e = (None, e, (h, refl))
-      by (Some (r, n)) e = always_then moved (Carried r.message.control (is_running v.task.state)) (Way Control) b (Tree.control r.message.control time v.task) _ (control_fits r.message.control time v.task b h) (λ u x f. (Some (r, n), e, (x, f, refl)))
+      by (Some (r, n)) e = always_then moved (Carried r.message.control (is_running v.task.state)) (Way Control) b (Tree.control r.message.control time v.task)
+          _ (control_fits r.message.control time v.task b h) (λ u x f. (Some (r, n), e, (x, f, refl)))
   step_way Child own b h =
       let restart = is_some (memory v.mailbox.timer) in
       always_then moved (Polled restart) (Way Child) b (Tree.poll_child restart time v.task) _ (poll_fits restart time v.task b h) (λ u x f. (x, f, refl))
-  step_way Pause own b h = always_then moved (λ u x. FitsTask no_calls x.0 u) (Way Pause) b (Tree.pause own v.task) _ (pause_fits own v.task b h) (λ u x f. (x, f, refl))
+  step_way Pause own b h = always_then moved (λ u x. FitsTask no_calls x.0 u) (Way Pause) b (Tree.pause own v.task) _ (pause_fits own v.task b h)
+      (λ u x f. (x, f, refl))
 
   -- so it was after each trace of a step
-  pub way_traced : {W : Type 0} (did : W → (c : Call) → Reply c → W → Type 0) (kind : StepKind) (own : ℕ) → GrantMeansRunning v.task → (w w' : W) (p : List Event) (s : StepEnd) → Traces did (tree_of kind own time v) w p s w' → (h : HostBook) (u : TerminalBook) → Fitting v.task h u → Way kind (after h u p) s
+  pub way_traced : {W : Type 0} (did : W → (c : Call) → Reply c → W → Type 0) (kind : StepKind) (own : ℕ) → GrantMeansRunning v.task
+      → (w w' : W) (p : List Event) (s : StepEnd) → Traces did (tree_of kind own time v) w p s w' → (h : HostBook) (u : TerminalBook) → Fitting v.task h u
+      → Way kind (after h u p) s
   way_traced did kind own g w w' p s r = traced did v.task g (Way kind) (tree_of kind own time v) w w' p s (step_way kind own) r
 
 -- THE BOOKS
@@ -71,7 +75,8 @@ one_at_most true = omega arith
 one_at_most false = omega arith
 
 -- what is taken takes a start that is owed, or one that is ordered
-take_owed : (time : ℕ) (m : MailboxView) (r : Received) (n : MailboxView) → take time m ≡ Some (r, n) → from_bool (orders r.message.control) + owed_starts n.timer ≤ owed_starts m.timer + from_bool (orders_start r)
+take_owed : (time : ℕ) (m : MailboxView) (r : Received) (n : MailboxView) → take time m ≡ Some (r, n) → from_bool (orders r.message.control) + owed_starts
+    n.timer ≤ owed_starts m.timer + from_bool (orders_start r)
 take_owed time m r n e = grind (arith, common_steps)
 
 -- and an outcome leaves what it owes
@@ -79,13 +84,21 @@ settle_owed : (time : ℕ) (o : Outcome) (ticket : ℕ) (m : MailboxView) → ow
 settle_owed time o ticket m = grind (arith, common_steps)
 
 -- a start that is owed is tried once the child has ended, and owed no more
-poll_owed : (o : PollOutcome) (m : MailboxView) → from_bool (is_some (memory m.timer) && found_end o) + owed_starts (settle_poll o m).timer ≤ owed_starts m.timer
+poll_owed : (o : PollOutcome) (m : MailboxView) → from_bool (is_some (memory m.timer) && found_end o) + owed_starts (settle_poll o m).timer ≤ owed_starts
+    m.timer
 poll_owed o m = grind (arith, common_steps)
 
 pub step_fits : (time : ℕ) (v : JobView) (kind : StepKind) (b : Books) (s : StepEnd) → v.closed ≡ false → Way time v kind b s → StepFits v b s
-step_fits time v Control b s o (None, e, (h, f)) = rw f (record { granted = h.0; roster = rw o h.1; grants = h.2; starts = omega (arith, ap (λ m. m.starts) h.3); few = omega (arith, ap (λ m. m.starts) h.3); yielded = λ g. cc (g, o) })
-step_fits time v Control b s o (Some (r, n), e, (x, h, f)) = rw f (record { granted = h.holder; roster = h.roster; grants = h.grants; starts = omega (arith, h.starts, take_owed time v.mailbox r n e, settle_owed time x.1 r.message.ticket n); few = omega (arith, h.starts, one_at_most (orders r.message.control)); yielded = h.closed })
+step_fits time v Control b s o (None, e, (h, f)) =
+    rw f (record { granted = h.0; roster = rw o h.1; grants = h.2; starts = omega (arith, ap (λ m. m.starts) h.3); few = omega (arith, ap (λ m. m.starts) h.3);
+    yielded = λ g. cc (g, o) })
+step_fits time v Control b s o (Some (r, n), e, (x, h, f)) =
+    rw f (record { granted = h.holder; roster = h.roster; grants = h.grants; starts = omega (arith, h.starts, take_owed time v.mailbox r n e,
+    settle_owed time x.1 r.message.ticket n); few = omega (arith, h.starts, one_at_most (orders r.message.control)); yielded = h.closed })
 step_fits time v Child b s o (x, h, f) =
     let owed = poll_owed x.1 v.mailbox in
-    rw f (record { granted = h.fits.0; roster = rw o h.fits.1; grants = h.fits.2; starts = omega (arith, h.starts, owed); few = omega (arith, h.starts, one_at_most (is_some (memory v.mailbox.timer) && found_end x.1)); yielded = λ g. cc (g, o) })
-step_fits time v Pause b s o (x, h, f) = rw f (record { granted = h.0; roster = rw o h.1; grants = h.2; starts = omega (arith, ap (λ m. m.starts) h.3); few = omega (arith, ap (λ m. m.starts) h.3); yielded = λ g. cc (g, o) })
+    rw f (record { granted = h.fits.0; roster = rw o h.fits.1; grants = h.fits.2; starts = omega (arith, h.starts, owed); few = omega
+        (arith, h.starts, one_at_most (is_some (memory v.mailbox.timer) && found_end x.1)); yielded = λ g. cc (g, o) })
+step_fits time v Pause b s o (x, h, f) =
+    rw f (record { granted = h.0; roster = rw o h.1; grants = h.2; starts = omega (arith, ap (λ m. m.starts) h.3); few = omega (arith, ap (λ m. m.starts) h.3);
+    yielded = λ g. cc (g, o) })

@@ -47,7 +47,8 @@ moved b (to_host c) a = record { roster = roster_after b.roster c a; grants = b.
 moved b (to_terminal c) a = record { roster = b.roster; grants = grants_after b.grants c a; tally = tally_after b.tally (terminal_record c a) }
 
 -- one that passes, in front of the others
-kinds_on : (b : Bool) (xs : List CallKind) (r : Record) (rs : List Record) → (if b then xs ++ r.call ∷ [] else xs) ++ map (λ r. r.call) rs ≡ xs ++ map (λ r. r.call) (if b then r ∷ rs else rs)
+kinds_on : (b : Bool) (xs : List CallKind) (r : Record) (rs : List Record) → (if b then xs ++ r.call ∷ [] else xs) ++ map (λ r. r.call) rs ≡ xs ++ map
+    (λ r. r.call) (if b then r ∷ rs else rs)
 kinds_on true xs r rs = grind (arith, common_steps)
 kinds_on false xs r rs = refl
 
@@ -65,14 +66,17 @@ along m n = record { kinds = m.kinds ++ n.kinds; starts = m.starts + n.starts; f
 fold-tally : (m : Tally) (rs : List Record) → fold tally_after m rs ≡ along m (tally_of rs)
 unfolding along
 fold-tally m [] = grind (arith, common_steps)
-fold-tally m (r ∷ rs) = fold-tally (tally_after m r) rs ∙ cc (kinds_on (is_decisive r) m.kinds r (filter is_decisive rs), count_on (λ r. is_spawn r.call) m.starts r rs, count_on is_failure m.failures r rs, count_on reports_end m.ends r rs)
+fold-tally m (r ∷ rs) = fold-tally (tally_after m r) rs ∙ cc (kinds_on (is_decisive r) m.kinds r (filter is_decisive rs), count_on (λ r. is_spawn r.call)
+    m.starts r rs, count_on is_failure m.failures r rs, count_on reports_end m.ends r rs)
 
 pub tally-journal : (rs : List Record) → fold tally_after no_calls rs ≡ tally_of rs
 unfolding along
 tally-journal rs = fold-tally no_calls rs ∙ grind (arith, common_steps)
 
 -- along a trace they are moved as the two books are, and by its records
-pub moved_along : (h : HostBook) (t : TerminalBook) (m : Tally) (p : List Event) → fold (λ u e. moved u e.0 e.1) (record { roster = h.roster; grants = t.grants; tally = m }) p ≡ record { roster = (host_along h p).roster; grants = (terminal_along t p).grants; tally = fold tally_after m (journal p) }
+pub moved_along : (h : HostBook) (t : TerminalBook) (m : Tally) (p : List Event)
+    → fold (λ u e. moved u e.0 e.1) (record { roster = h.roster; grants = t.grants; tally = m }) p ≡ record { roster = (host_along h p).roster; grants =
+    (terminal_along t p).grants; tally = fold tally_after m (journal p) }
 moved_along h t m [] = refl
 moved_along h t m ((to_host c, a) ∷ p) = moved_along (host_after h c a) t (tally_after m (host_record c a)) p
 moved_along h t m ((to_terminal c, a) ∷ p) = moved_along h (terminal_after t c a) (tally_after m (terminal_record c a)) p

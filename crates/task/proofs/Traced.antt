@@ -31,7 +31,9 @@ fitting_terminal t = record { own = 1; grants = from_bool t.foreground.grant; se
 pub fitting : (t : TaskView) → Fitting t (fitting_host t) (fitting_terminal t)
 fitting t = record { roster = refl; grants = refl }
 
-pub traced : {W A : Type 0} (did : W → (c : Call) → Reply c → W → Type 0) (t : TaskView) → GrantMeansRunning t → (R : Books → A → Type 0) (tree : Interaction A) (w w' : W) (p : List Event) (x : A) → ((b : Books) → FitsTask no_calls t b → Always moved R b tree) → Traces did tree w p x w' → (h : HostBook) (u : TerminalBook) → Fitting t h u → R (after h u p) x
+pub traced : {W A : Type 0} (did : W → (c : Call) → Reply c → W → Type 0) (t : TaskView) → GrantMeansRunning t → (R : Books → A → Type 0) (tree : Interaction A)
+    (w w' : W) (p : List Event) (x : A) → ((b : Books) → FitsTask no_calls t b → Always moved R b tree) → Traces did tree w p x w'
+    → (h : HostBook) (u : TerminalBook) → Fitting t h u → R (after h u p) x
 traced did t g R tree w w' p x k r h u f =
     let b : Books = record { roster = h.roster; grants = u.grants; tally = no_calls } in
     let ends : R (fold (λ v e. moved v e.0 e.1) b p) x = always_traced moved did R b tree w w' p x (k b (g, f.roster, f.grants, refl)) r in

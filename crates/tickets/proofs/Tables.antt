@@ -39,7 +39,8 @@ waiting_few = places_few is_waiting
 -- ONE PLACE CHANGES
 
 -- a change sets the first place that p picks; where it picks none, that place is past the end, and nothing is set
-pub change-set : (p : Place → Bool) (f : Place → Place) (es : Table) (d : Place) → change p f es ≡ set es (position_or_len p es) (f (get_or es (position_or_len p es) d))
+pub change-set : (p : Place → Bool) (f : Place → Place) (es : Table) (d : Place) → change p f es ≡ set es (position_or_len p es)
+    (f (get_or es (position_or_len p es) d))
 change-set p f [] d = refl
 change-set p f (e ∷ es) d = grind (arith, one-add, change-set p f es d)
 
@@ -78,7 +79,8 @@ raise_none t (e ∷ es) h = grind (arith, nat_tests, raise_none t es)
 -- A TICKET IS ISSUED
 
 -- a new ticket gets a place
-pub put-weight : (p : Mark → Bool) (t : ℕ) (mark : Mark) (es : Table) → 1 ≤ free_places es → (w : ℕ → ℕ) → weight p w (put t mark es) ≡ cond (p mark) (w t) 0 + weight p w es
+pub put-weight : (p : Mark → Bool) (t : ℕ) (mark : Mark) (es : Table) → 1 ≤ free_places es → (w : ℕ → ℕ) → weight p w (put t mark es) ≡ cond (p mark)
+    (w t) 0 + weight p w es
 put-weight p t mark [] h w = absurd (omega arith)
 put-weight p t mark (e ∷ es) h w = grind (arith, put-weight p t mark es)
 
@@ -155,7 +157,8 @@ raise-goes s t (e ∷ es) = grind (arith, common_steps, nat_tests, raise-goes s 
 
 pub raise_each-goes : (s : ℕ) (ts : List ℕ) (es : Table) → goes_on (mark_of s es) (mark_of s (raise_each ts es)) ≡ true
 raise_each-goes s [] es = goes_again (mark_of s es)
-raise_each-goes s (t ∷ ts) es = goes_further (mark_of s es) (mark_of s (raise t es)) (mark_of s (raise_each ts (raise t es))) (raise-goes s t es) (raise_each-goes s ts (raise t es))
+raise_each-goes s (t ∷ ts) es = goes_further (mark_of s es) (mark_of s (raise t es)) (mark_of s (raise_each ts (raise t es))) (raise-goes s t es)
+    (raise_each-goes s ts (raise t es))
 
 -- in a table with one place for it at most, a ticket waits, is raised, or has no place
 pub one_standing : (s : ℕ) (es : Table) → weight is_taken (one_at s) es ≤ 1 → weight is_waiting (one_at s) es + done_count (mark_of s es) ≡ 1

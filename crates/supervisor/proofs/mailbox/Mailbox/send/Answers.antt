@@ -13,7 +13,9 @@ queue_rest : (p : Priority) (c : ControlMessage) (q : QueuesView) → queue_room
 queue_rest p c q e = grind (arith, common_steps)
 
 pub admit-requires-3-clause-queue : goal.admit-requires-3-clause-queue
-admit-requires-3-clause-queue c = rw (ap (λ m. m.queues) c.admit-2.ensures.after) (queue_rest c.args.priority _ (mailbox_view c.args.self.now).queues (grind (arith, c.in-Some.is)))
+admit-requires-3-clause-queue c = rw (ap (λ m. m.queues) c.admit-2.ensures.after) (queue_rest c.args.priority _ (mailbox_view c.args.self.now).queues
+    (grind (arith, c.in-Some.is)))
 
 pub admit-requires-3-clause-ticket : goal.admit-requires-3-clause-ticket
-admit-requires-3-clause-ticket c = subst (λ (m : MailboxView). serial_room 1 m ≡ true) (sym c.admit-2.ensures.after) (let m = mailbox_view c.args.self.now in room_rest 1 m.tickets.issued (new_mark false) m.tickets.table (grind (arith, c.in-Some.is)))
+admit-requires-3-clause-ticket c = subst (λ (m : MailboxView). serial_room 1 m ≡ true) (sym c.admit-2.ensures.after) (let m = mailbox_view c.args.self.now in
+    room_rest 1 m.tickets.issued (new_mark false) m.tickets.table (grind (arith, c.in-Some.is)))

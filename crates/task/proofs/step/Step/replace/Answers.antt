@@ -18,7 +18,8 @@ returns-in-Ok g c =
     and_then (Tree.report part) (Tree.replace_after s.time) (telling part c.end_by_force-forced.ensures c.report.ensures.told)
     (at_value (λ (r : Result ⊤ Fault). Tree.replace_after s.time (t, r)) (sym c.in-Ok.is)
     (at_value (λ (k : Task). Tree.begin s.time Ended (task_view k)) c.report.ensures.task
-    (at_value (λ (time : ℕ). Tree.begin time Ended (task_of c.report.new.self)) (c.report.ensures.told.same.time ∙ c.end_by_force-forced.ensures.same.time) c.begin.ensures)))
+    (at_value (λ (time : ℕ). Tree.begin time Ended (task_of c.report.new.self)) (c.report.ensures.told.same.time ∙ c.end_by_force-forced.ensures.same.time)
+        c.begin.ensures)))
 
 pub returns-in-Err : goal.returns-in-Err
 returns-in-Err g c =

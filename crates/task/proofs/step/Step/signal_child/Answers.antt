@@ -15,5 +15,6 @@ returns g c =
     at_value (λ (state : CommandState). Tree.signal_in state c.args.signal c.args.sent t) (sym c.in-Running.is)
     (at_value course c.sent_as.ensures
     (and_then (Tree.report (part c.sent_as.result)) _
-    (telling (part c.sent_as.result) (and_then (call _) _ (one_call c.signal-signalled.ensures) (still_at {x = (task_of c.signal-signalled.new.self, c.signal-signalled.result)} (rw c.signal-signalled.ensures.task))) c.report.ensures.told)
+    (telling (part c.sent_as.result) (and_then (call _) _ (one_call c.signal-signalled.ensures)
+        (still_at {x = (task_of c.signal-signalled.new.self, c.signal-signalled.result)} (rw c.signal-signalled.ensures.task))) c.report.ensures.told)
     (still_at (rw (c.report.ensures.task, c.unless_faulted.ensures)))))
