@@ -84,7 +84,8 @@ pub record Agrees (v : JobView) (o : Original) : Type 0 where
   pub issued : o.flags ≡ v.mailbox.tickets.issued
   pub closed : o.gone ≡ v.closed
   pub later : (s : ℕ) → v.mailbox.tickets.issued < s → is_raised s o.raised ≡ false
-  pub raised : v.closed ≡ false → (s : ℕ) → 1 ≤ s → s ≤ v.mailbox.tickets.issued → done_count (mark_of s v.mailbox.tickets.table) ≡ from_bool (is_raised s o.raised)
+  pub raised : v.closed ≡ false → (s : ℕ) → 1 ≤ s → s ≤ v.mailbox.tickets.issued → done_count (mark_of s v.mailbox.tickets.table) ≡ from_bool
+      (is_raised s o.raised)
 
 -- ONE CALL
 
@@ -96,7 +97,8 @@ is_launch r = is_spawn r.call && not (is_fault r.answer)
 -- meets Pending, and no granted launch meets waiting pauses.
 pub record IsApart (am : Amendments) (kind : StepKind) (now : ℕ) (v : JobView) (records : List Record) : Type 0 where
   pub outlasted : kind ≡ Control → (t : Timer) → v.mailbox.timer ≡ Some t → t.deadline ≤ now → t.end ≡ Restart → am.forgets ≡ true
-  pub pending : kind ≡ Control → (r : Received) (m : MailboxView) → Mail.take now v.mailbox ≡ Some (r, m) → r.message.control ≡ NextEnding → v.task.state ≡ Pending → am.at_once ≡ true
+  pub pending : kind ≡ Control → (r : Received) (m : MailboxView) → Mail.take now v.mailbox ≡ Some (r, m) → r.message.control ≡ NextEnding
+      → v.task.state ≡ Pending → am.at_once ≡ true
   pub waiting : list_any is_launch records ≡ true → (if am.drops then [] else v.task.foreground.pauses) ≡ []
 
 module _ {H T : Type 0} (by_host : Host.Ghosts H) (by_terminal : Terminal.Ghosts T) where
@@ -104,7 +106,8 @@ module _ {H T : Type 0} (by_host : Host.Ghosts H) (by_terminal : Terminal.Ghosts
   own a = (by_terminal.book a.terminal).own
 
   -- the calls of an accepted step, of which the original makes all but letting go, given the same answers
-  pub record MakesSameCalls (am : Amendments) (kind : StepKind) (now : ℕ) (a : Moment H T) (o : Original) (d : Done) (b : Moment H T) (o' : Original) : Type 0 where
+  pub record MakesSameCalls (am : Amendments) (kind : StepKind) (now : ℕ) (a : Moment H T) (o : Original) (d : Done) (b : Moment H T) (o' : Original) : Type 0
+      where
     pub calls : List Event
     pub end : StepEnd
     pub made : Traces (IsAnswered by_host by_terminal) (tree_of kind (own a) now (job_view a.job)) (world_at a) calls end (world_at b)
@@ -133,11 +136,14 @@ module _ {H T : Type 0} (by_host : Host.Ghosts H) (by_terminal : Terminal.Ghosts
   abbrev pub Follow : Amendments → List Call → Moment H T → Original → List (Turn (Moment H T)) → Type 0
   Follow am [] a o ts = Agrees (job_view a.job) o
   Follow am (c ∷ cs) a o [] = ⊥
-  Follow am (c ∷ cs) a o (t ∷ ts) = Agrees (job_view a.job) o × ((o' : Original) × DoesIf t.did.answer (Does am c a o t.did t.at o') o o' × Follow am cs t.at o' ts)
+  Follow am (c ∷ cs) a o (t ∷ ts) = Agrees (job_view a.job) o × ((o' : Original) × DoesIf t.did.answer (Does am c a o t.did t.at o') o o' × Follow am cs t.at o'
+      ts)
 
 -- On every list the job is the amended original. Where no call touches what is amended, it is the published one. A fresh job agrees with
 -- a fresh original.
-pub record MatchesOriginal {H T : Type 0} (by_host : Host.Ghosts H) (by_terminal : Terminal.Ghosts T) (calls : List Call) (a : Moment H T) (turns : List (Turn (Moment H T))) (b : Moment H T) : Type 0 where
+pub record MatchesOriginal {H T : Type 0} (by_host : Host.Ghosts H) (by_terminal : Terminal.Ghosts T) (calls : List Call) (a : Moment H T)
+    (turns : List (Turn (Moment H T))) (b : Moment H T) : Type 0 where
   pub on_every_list : (o : Original) → Agrees (job_view a.job) o → Follow by_host by_terminal all_amendments calls a o turns
-  pub untouched : (o : Original) → Agrees (job_view a.job) o → Linked (IsUntouched by_host by_terminal no_amendments) calls a turns b → Follow by_host by_terminal no_amendments calls a o turns
+  pub untouched : (o : Original) → Agrees (job_view a.job) o → Linked (IsUntouched by_host by_terminal no_amendments) calls a turns b
+      → Follow by_host by_terminal no_amendments calls a o turns
   pub from_fresh : (c : Command) → job_view a.job ≡ Job.fresh_job c → Agrees (job_view a.job) (fresh_original c)

@@ -70,11 +70,13 @@ module _ {H T : Type 0} (by_host : Host.Ghosts H) (by_terminal : Terminal.Ghosts
     -- each accepted control got the next ticket
     pub issued : (job_at b).mailbox.tickets.issued ≡ (job_at a).mailbox.tickets.issued + length (accepted_controls c (job_at a).closed d.answer)
     -- a control that orders a start was counted as it left its queue
-    pub taken : waiting_orders (job_at b).mailbox.queues + d.tally.ordered ≡ waiting_orders (job_at a).mailbox.queues + count_by orders (accepted_controls c (job_at a).closed d.answer)
+    pub taken : waiting_orders (job_at b).mailbox.queues + d.tally.ordered ≡ waiting_orders (job_at a).mailbox.queues + count_by orders
+        (accepted_controls c (job_at a).closed d.answer)
     -- a start that was tried is a spawn that the host served
     pub spawned : (by_host.book b.host).spawns % 2 ^ 64 ≡ ((by_host.book a.host).spawns + d.tally.tried) % 2 ^ 64
     -- a ticket that was not collected goes on: a held one is not lost, and a raised one stays raised
-    pub tickets : (s : ℕ) → s ≤ (job_at a).mailbox.tickets.issued → collects c s ≡ false → goes_on (mark_of s (job_at a).mailbox.tickets.table) (mark_of s (job_at b).mailbox.tickets.table) ≡ true
+    pub tickets : (s : ℕ) → s ≤ (job_at a).mailbox.tickets.issued → collects c s ≡ false → goes_on (mark_of s (job_at a).mailbox.tickets.table)
+        (mark_of s (job_at b).mailbox.tickets.table) ≡ true
     -- a refused call left job, host, terminal and sheet as they were
     pub refused : OnErr d.answer (b ≡ a)
 
@@ -85,7 +87,9 @@ AtEach P tried ordered a (t ∷ ts) = P tried ordered a × AtEach P (tried + t.d
 
 -- THE LAWS. A run from a moment at which the books fit is lawful at each moment; so is one of a fresh job over an empty roster and no
 -- open grant, with no start owed. And each of its calls is fair.
-pub record KeepsLaws {H T : Type 0} (by_host : Host.Ghosts H) (by_terminal : Terminal.Ghosts T) (calls : List Call) (a : Moment H T) (turns : List (Turn (Moment H T))) (b : Moment H T) : Type 0 where
+pub record KeepsLaws {H T : Type 0} (by_host : Host.Ghosts H) (by_terminal : Terminal.Ghosts T) (calls : List Call) (a : Moment H T)
+    (turns : List (Turn (Moment H T))) (b : Moment H T) : Type 0 where
   pub lawful : BooksFit by_host by_terminal a → AtEach (IsLawful by_host by_terminal (owed_starts (job_at a).mailbox.timer)) 0 0 a turns
-  pub from_fresh : (c : Command) → job_at a ≡ fresh_job c → (by_host.book a.host).roster ≡ no_child → (by_terminal.book a.terminal).grants ≡ 0 → AtEach (IsLawful by_host by_terminal 0) 0 0 a turns
+  pub from_fresh : (c : Command) → job_at a ≡ fresh_job c → (by_host.book a.host).roster ≡ no_child → (by_terminal.book a.terminal).grants ≡ 0
+      → AtEach (IsLawful by_host by_terminal 0) 0 0 a turns
   pub fair : Linked (IsFair by_host by_terminal) calls a turns b

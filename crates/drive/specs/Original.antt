@@ -1,5 +1,5 @@
 -- The original: the job task of watchexec-supervisor 6.0.0 on Unix, arm by arm as `start_job` has it, as interaction trees. Names are
--- the Rust's. It stands for itself: of the job it uses only the words for controls, states, calls and faults.
+XX
 use Rattle.std.specs.Prelude.{ℕ, ◌+◌, Bool, true, false, not, ◌&&◌, ◌||◌, if◌then◌else◌, List, [], ◌∷◌, ◌++◌, Some, None, Ok, Err, Option, Result, ◌==◌, nat_le, is_some, is_ok, ⊤}
 use Rattle.std.specs.Result.{result_unwrap_or}
 use Rattle.host.specs.declared.fault.Fault.{Fault}
@@ -122,14 +122,16 @@ ask_hook (Some hook) o = bind (call (to_host (Calls.hook hook o.command_state o.
 -- a spawned child runs, and start_pause_watch_if_running: a fresh run is never paused, and is watched if the command asks for it
 abbrev pub after_spawn : Amendments → ℕ → Original → Result ℕ Fault → Original × Result ⊤ Fault
 after_spawn am now o (Ok child) =
-    (record o { command_state = Running child now; paused = None; pause_watch = o.command.options.grant_foreground; pause_rx = if am.drops then [] else o.pause_rx }, Ok tt)
+    (record o { command_state = Running child now; paused = None; pause_watch = o.command.options.grant_foreground; pause_rx = if am.drops then []
+        else o.pause_rx }, Ok tt)
 after_spawn am now o (Err fault) = (o, Err fault)
 
 -- previous_run = Some(command_state.reset()), the spawn hook, command_state.spawn and the watch, as they stand in five places
 abbrev pub launch : Amendments → ℕ → Original → Interaction (Original × Result ⊤ Fault)
 launch am now o =
     let fresh = record o { command_state = Pending; previous_run = Some (reset now o.command_state) } in
-    bind (ask_hook fresh.spawn_hook fresh) (λ options. bind (call (to_host (Calls.spawn fresh.command.program options fresh.spawner now))) (λ a. done (after_spawn am now fresh a)))
+    bind (ask_hook fresh.spawn_hook fresh) (λ options. bind (call (to_host (Calls.spawn fresh.command.program options fresh.spawner now)))
+        (λ a. done (after_spawn am now fresh a)))
 
 -- try_with_handler!: where what was tried has faulted, the handler is called, the control's flag raised, and the arm left
 abbrev pub try_with_handler : {A : Type 0} → ℕ → Original × Result A Fault → (A → Original → Interaction Original) → Interaction Original
@@ -174,7 +176,8 @@ continue_restart am state now flag o = start_again am now flag o
 
 -- signal_child, and then what is done where it was granted
 abbrev pub signal_child : CommandState → ℕ → ℕ → Original → (Original → Interaction Original) → Interaction Original
-signal_child (Running child started) signal flag o rest = bind (call (to_host (Calls.signal child (signal_number signal)))) (λ a. try_with_handler flag (o, a) (λ _ o₁. rest o₁))
+signal_child (Running child started) signal flag o rest = bind (call (to_host (Calls.signal child (signal_number signal))))
+    (λ a. try_with_handler flag (o, a) (λ _ o₁. rest o₁))
 signal_child state signal flag o rest = finish flag o
 
 -- Timer::stop, and Timer::restart with on_end_restart
@@ -192,9 +195,11 @@ next_ending am (Running child started) flag o = record o { on_end = o.on_end ++ 
 abbrev pub arm : Amendments → Control → ℕ → ℕ → Original → Interaction Original
 arm am Start now flag o = start am o.command_state now flag o
 arm am Stop now flag o = bind (resume_and_reclaim o) (λ o₁. stop o₁.command_state now flag o₁)
-arm am (GracefulStop signal grace) now flag o = bind (resume_paused_command o) (λ o₁. signal_child o₁.command_state signal flag o₁ (grace_stop (now + grace) flag))
+arm am (GracefulStop signal grace) now flag o =
+    bind (resume_paused_command o) (λ o₁. signal_child o₁.command_state signal flag o₁ (grace_stop (now + grace) flag))
 arm am TryRestart now flag o = bind (resume_and_reclaim o) (λ o₁. try_restart am o₁.command_state now flag o₁)
-arm am (TryGracefulRestart signal grace) now flag o = bind (resume_paused_command o) (λ o₁. signal_child o₁.command_state signal flag o₁ (grace_restart (now + grace) flag))
+arm am (TryGracefulRestart signal grace) now flag o =
+    bind (resume_paused_command o) (λ o₁. signal_child o₁.command_state signal flag o₁ (grace_restart (now + grace) flag))
 arm am ContinueTryGracefulRestart now flag o = bind (resume_and_reclaim o) (λ o₁. continue_restart am o₁.command_state now flag o₁)
 arm am (Signal signal) now flag o = signal_child o.command_state signal flag o (finish flag)
 arm am Delete now flag o = bind (reclaim o) (λ o₁. done (record (raise flag o₁) { gone = true }))

@@ -19,4 +19,5 @@ pub record KeepsRestartLaws {H T : Type 0} (calls : List Call) (a : Moment H T) 
   -- A GRACEFUL RESTART LEADS TO AT MOST ONE START. While no other start is ordered, one is tried at most.
   pub once : (t : Timer) → RestartPends t (job_at a) → ordered_in turns ≡ 0 → tried_in turns ≤ 1
   -- AFTER THE FORCED RESTART THE NEXT END STARTS NOTHING. Once the step at its deadline was made, none but ordered starts are tried.
-  pub forced : (t : Timer) (time : ℕ) (rest : List Call) (first : Turn (Moment H T)) (later : List (Turn (Moment H T))) → RestartPends t (job_at a) → t.deadline ≤ time → calls ≡ Step Control time ∷ rest → turns ≡ first ∷ later → is_ok first.did.answer ≡ true → tried_in later ≤ ordered_in later
+  pub forced : (t : Timer) (time : ℕ) (rest : List Call) (first : Turn (Moment H T)) (later : List (Turn (Moment H T))) → RestartPends t (job_at a)
+      → t.deadline ≤ time → calls ≡ Step Control time ∷ rest → turns ≡ first ∷ later → is_ok first.did.answer ≡ true → tried_in later ≤ ordered_in later

@@ -36,8 +36,15 @@ module _ {X : Type 0} (slots : List X) (ring : Ring) (within : ring.head < lengt
   next_turn : (d : X) → drop ((ring.head + 1) % length slots) slots ++ take ((ring.head + 1) % length slots) slots
       ≡ (drop (ring.head + 1) slots ++ take ring.head slots) ++ get_or slots ring.head d ∷ []
   next_turn d =
-      grind (arith, append_assoc, wraps_once (length slots) ring.head 1 within (omega arith), take_more slots ring.head d within, take_all (ring.head + 1)
-          slots, drop_all (ring.head + 1) slots)
+      grind (
+        arith,
+        append_assoc,
+        wraps_once (length slots) ring.head 1 within (omega arith),
+        take_more slots ring.head d within,
+        take_all (ring.head + 1)
+            slots,
+        drop_all (ring.head + 1) slots,
+      )
 
   -- the items are the one at the head, then those that are held once it is taken
   pub items_before_take : (d : X) → 0 < ring.len → ring.len ≤ length slots → items slots ring ≡ get_or slots ring.head d ∷ items slots

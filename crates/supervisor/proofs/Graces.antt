@@ -64,7 +64,7 @@ carried_law : (time : ℕ) (v : JobView) (r : Received) (n : MailboxView) → In
     → MaySetTimer r.message.control x.1 → TakesWhenDue time v (control_end time r n x).view × NormalWaits v (control_end time r n x).view
 carried_law time v r n h e x f =
     let leaves = λ (t : Timer) (p : Pends t v). settle_leaves time x.1 r.message.ticket n (calm time t v.mailbox r n x.1 p (takes time t v.mailbox r n p e) h f)
-        in (
+    in (
       record {
         due = λ t p l. grind (arith, leaves t p, (takes time t v.mailbox r n p e).due l);
         early = λ t p l. grind (arith, leaves t p, (takes time t v.mailbox r n p e).early l);
@@ -94,7 +94,7 @@ pub continue_way : (time : ℕ) (t : Timer) (v : JobView) (b : Books) (s : StepE
 continue_way time t v b s p e l (k, taken, w) =
     let now = take_now time t v.mailbox p l in
     let way : ControlWay time v (Some (message_from (timer_message t) Sources.Timer, with_timer None v.mailbox)) b s =
-        subst (λ (k : TakeResult). ControlWay time v k b s) (sym taken ∙ now) w in
+    subst (λ (k : TakeResult). ControlWay time v k b s) (sym taken ∙ now) w in
     (way.0, subst (λ (c : AnyControl). Carried c (is_running v.task.state) b way.0) (ap control_at_end e) way.1)
 
 -- what starts or fails is a spawn, or a failure
@@ -165,7 +165,7 @@ module _ {H T : Type 0} {by_host : Host.Ghosts H} {by_terminal : Terminal.Ghosts
       let way = way_of Child 0 time a b s k in
       let found : found_end way.0.1 ≡ true = some (found_end way.0.1) (omega (arith, way.1.ends, rw (records_are k.conducts) at l)) in
       subst (λ (v : JobView). (v.mailbox.timer ≡ None) × (look t.ticket (job_view a.job) ≡ Ok false → look t.ticket v ≡ Ok true)) (sym (ap (λ e. e.view) way.2))
-          (end_law time (job_view a.job) way.0 t p found)
+      (end_law time (job_view a.job) way.0 t p found)
     where
       some : (o : Bool) → 1 ≤ from_bool o → o ≡ true
       some true h = refl

@@ -90,15 +90,45 @@ poll_owed o m = grind (arith, common_steps)
 
 pub step_fits : (time : ℕ) (v : JobView) (kind : StepKind) (b : Books) (s : StepEnd) → v.closed ≡ false → Way time v kind b s → StepFits v b s
 step_fits time v Control b s o (None, e, (h, f)) =
-    rw f (record { granted = h.0; roster = rw o h.1; grants = h.2; starts = omega (arith, ap (λ m. m.starts) h.3); few = omega (arith, ap (λ m. m.starts) h.3);
-    yielded = λ g. cc (g, o) })
+    rw f (record {
+      granted = h.0;
+      roster = rw o h.1;
+      grants = h.2;
+      starts = omega (arith, ap (λ m. m.starts) h.3);
+      few = omega (arith, ap (λ m. m.starts) h.3);
+      yielded = λ g. cc (g, o);
+    })
 step_fits time v Control b s o (Some (r, n), e, (x, h, f)) =
-    rw f (record { granted = h.holder; roster = h.roster; grants = h.grants; starts = omega (arith, h.starts, take_owed time v.mailbox r n e,
-    settle_owed time x.1 r.message.ticket n); few = omega (arith, h.starts, one_at_most (orders r.message.control)); yielded = h.closed })
+    rw f (record {
+      granted = h.holder;
+      roster = h.roster;
+      grants = h.grants;
+      starts = omega (
+        arith,
+        h.starts,
+        take_owed time v.mailbox r n e,
+        settle_owed time x.1 r.message.ticket n,
+      );
+      few = omega (arith, h.starts, one_at_most (orders r.message.control));
+      yielded = h.closed;
+    })
 step_fits time v Child b s o (x, h, f) =
     let owed = poll_owed x.1 v.mailbox in
-    rw f (record { granted = h.fits.0; roster = rw o h.fits.1; grants = h.fits.2; starts = omega (arith, h.starts, owed); few = omega
-        (arith, h.starts, one_at_most (is_some (memory v.mailbox.timer) && found_end x.1)); yielded = λ g. cc (g, o) })
+    rw f (record {
+      granted = h.fits.0;
+      roster = rw o h.fits.1;
+      grants = h.fits.2;
+      starts = omega (arith, h.starts, owed);
+      few = omega
+          (arith, h.starts, one_at_most (is_some (memory v.mailbox.timer) && found_end x.1));
+      yielded = λ g. cc (g, o);
+    })
 step_fits time v Pause b s o (x, h, f) =
-    rw f (record { granted = h.0; roster = rw o h.1; grants = h.2; starts = omega (arith, ap (λ m. m.starts) h.3); few = omega (arith, ap (λ m. m.starts) h.3);
-    yielded = λ g. cc (g, o) })
+    rw f (record {
+      granted = h.0;
+      roster = rw o h.1;
+      grants = h.2;
+      starts = omega (arith, ap (λ m. m.starts) h.3);
+      few = omega (arith, ap (λ m. m.starts) h.3);
+      yielded = λ g. cc (g, o);
+    })

@@ -40,4 +40,5 @@ Continues time v records = (t : Timer) → Pends t v → t.end ≡ Restart → t
 -- A TIMER'S TICKET IS RAISED WHEN ITS CHILD ENDS FIRST. Who holds it and was told to wait is told that it is done; the timer, and
 -- with it the restart memory, is gone.
 abbrev pub RaisesAtEnd : JobView → List Record → JobView → Type 0
-RaisesAtEnd v records v' = (t : Timer) → Pends t v → 1 ≤ count_by reports_end records → (v'.mailbox.timer ≡ None) × (look t.ticket v ≡ Ok false → look t.ticket v' ≡ Ok true)
+RaisesAtEnd v records v' = (t : Timer) → Pends t v → 1 ≤ count_by reports_end records → (v'.mailbox.timer ≡ None) × (look t.ticket v ≡ Ok false
+    → look t.ticket v' ≡ Ok true)

@@ -69,7 +69,8 @@ impl Mailbox {
         requires queue { Mail.queue_room priority 1 (mailbox_view self.old).queues ≡ true }
         requires ticket { Mail.serial_room 1 (mailbox_view self.old) ≡ true }
         ensures ticket { result ≡ (mailbox_view self.old).tickets.issued + 1 }
-        ensures after { mailbox_view self.new ≡ Mail.admit priority control held (mailbox_view self.old) }
+        ensures after { mailbox_view self.new ≡ Mail.admit priority control held
+            (mailbox_view self.old) }
     {
         let ticket = self.tickets.issue(held).unwrap();
         self.queues
@@ -80,7 +81,8 @@ impl Mailbox {
     // Gives each control a ticket, the last one a held one, which is answered, and adds them to their queue; or refuses all, for
     // what they carry, or where the queue or the ticket table lacks room.
     pub(crate) fn send(&mut self, priority: Priority, controls: Controls) -> Result<Ticket, Refusal>
-        ensures answer { (mailbox_view self.new, result) ≡ Mail.send priority (list_of controls) (mailbox_view self.old) }
+        ensures answer { (mailbox_view self.new, result) ≡ Mail.send priority (list_of controls)
+            (mailbox_view self.old) }
         ensures unchanged { OnErr result (self.new ≡ self.old) }
     {
         controls.fit()?;

@@ -66,8 +66,13 @@ along m n = record { kinds = m.kinds ++ n.kinds; starts = m.starts + n.starts; f
 fold-tally : (m : Tally) (rs : List Record) → fold tally_after m rs ≡ along m (tally_of rs)
 unfolding along
 fold-tally m [] = grind (arith, common_steps)
-fold-tally m (r ∷ rs) = fold-tally (tally_after m r) rs ∙ cc (kinds_on (is_decisive r) m.kinds r (filter is_decisive rs), count_on (λ r. is_spawn r.call)
-    m.starts r rs, count_on is_failure m.failures r rs, count_on reports_end m.ends r rs)
+fold-tally m (r ∷ rs) = fold-tally (tally_after m r) rs ∙ cc (
+  kinds_on (is_decisive r) m.kinds r (filter is_decisive rs),
+  count_on (λ r. is_spawn r.call)
+      m.starts r rs,
+  count_on is_failure m.failures r rs,
+  count_on reports_end m.ends r rs,
+)
 
 pub tally-journal : (rs : List Record) → fold tally_after no_calls rs ≡ tally_of rs
 unfolding along
@@ -75,8 +80,12 @@ tally-journal rs = fold-tally no_calls rs ∙ grind (arith, common_steps)
 
 -- along a trace they are moved as the two books are, and by its records
 pub moved_along : (h : HostBook) (t : TerminalBook) (m : Tally) (p : List Event)
-    → fold (λ u e. moved u e.0 e.1) (record { roster = h.roster; grants = t.grants; tally = m }) p ≡ record { roster = (host_along h p).roster; grants =
-    (terminal_along t p).grants; tally = fold tally_after m (journal p) }
+    → fold (λ u e. moved u e.0 e.1) (record { roster = h.roster; grants = t.grants; tally = m }) p ≡ record {
+      roster = (host_along h p).roster;
+      grants =
+          (terminal_along t p).grants;
+      tally = fold tally_after m (journal p);
+    }
 moved_along h t m [] = refl
 moved_along h t m ((to_host c, a) ∷ p) = moved_along (host_after h c a) t (tally_after m (host_record c a)) p
 moved_along h t m ((to_terminal c, a) ∷ p) = moved_along h (terminal_after t c a) (tally_after m (terminal_record c a)) p

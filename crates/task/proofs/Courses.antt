@@ -172,8 +172,16 @@ module _ (c : Control) (t : TaskView) (time : ℕ) where
   -- it ends with a plain outcome
   ends : (m : Tally) (b : Books) (x : TaskView) (o : Outcome) → m.starts ≤ from_bool (orders c) → Plain o → Continued c (is_running t.state) m → FitsTask m x b
       → Ends b (x, o)
-  ends m b x o l p k h = record { holder = h.0; roster = rw p.0 h.1; grants = h.2; starts = omega (arith, ap (λ m. m.starts) h.3, p.1, l); timed = λ g. cc
-      (g, p.2); closed = λ g. cc (g, p.0); continued = rw h.3 k }
+  ends m b x o l p k h = record {
+    holder = h.0;
+    roster = rw p.0 h.1;
+    grants = h.2;
+    starts = omega (arith, ap (λ m. m.starts) h.3, p.1, l);
+    timed = λ g. cc
+        (g, p.2);
+    closed = λ g. cc (g, p.0);
+    continued = rw h.3 k;
+  }
 
   way_first : (b : Books) (g : TaskView → Course Outcome) → FitsTask no_calls t b → ((u : Books) (x : TaskView) → Free no_calls x u → x.state ≡ t.state
       → Always Ends u (g x)) → Always Ends b (bind (Tree.make_way t) g)
@@ -212,8 +220,15 @@ module _ (c : Control) (t : TaskView) (time : ℕ) where
         (Tree.send_signal child (Tree.number_sent signal) x) (λ a. h)) (λ u y f. by u y.0 y.1 f)
       where
         by : (u : Books) (y : TaskView) (r : Result ⊤ Fault) → FitsTask no_calls y u → Ends u (y, Tree.unless_faulted o r)
-        by u y (Ok v) f = record { holder = f.0; roster = rw e f.1; grants = f.2; starts = omega (arith, ap (λ m. m.starts) f.3, l); timed = timed;
-            closed = λ g. cc (g, e); continued = rw f.3 none }
+        by u y (Ok v) f = record {
+          holder = f.0;
+          roster = rw e f.1;
+          grants = f.2;
+          starts = omega (arith, ap (λ m. m.starts) f.3, l);
+          timed = timed;
+          closed = λ g. cc (g, e);
+          continued = rw f.3 none;
+        }
         by u y (Err fault) f = settles u y f
     signals s signal o b x e l timed h = settles b x h
 
@@ -264,8 +279,15 @@ control_fits Delete time t b h = always_then moved (λ u x. Free no_calls x u ×
   where
     goes : (u : Books) (x : TaskView) → u.roster ≡ no_child → u.grants ≡ from_bool x.foreground.grant → u.tally ≡ no_calls → (x.foreground.grant ≡ false)
         → Carried Delete (is_running t.state) u (x, Closes)
-    goes u x r g l e = record { holder = λ k. cc (k, e); roster = r; grants = g; starts = omega (arith, ap (λ m. m.starts) l); timed = λ k. cc; closed = λ _. e;
-        continued = tt }
+    goes u x r g l e = record {
+      holder = λ k. cc (k, e);
+      roster = r;
+      grants = g;
+      starts = omega (arith, ap (λ m. m.starts) l);
+      timed = λ k. cc;
+      closed = λ _. e;
+      continued = tt;
+    }
 
     by : (s : CommandState) (u : Books) (x : TaskView) → x.state ≡ s → Free no_calls x u → Always (Carried Delete (is_running t.state)) u (Tree.delete_in s x)
     by (Running child began) u x e f = λ a. goes (moved u (to_host (let_go child)) a) x (rw (f.0.1, e) (strike-one_child child)) f.0.2 f.0.3 f.1

@@ -14,15 +14,25 @@ use Rattle.task.proofs.Running.{traces-bind}
 
 module _ {H T : Type 0} where
   same_then : {s m s' : Step H T} → LendsSame s m → LendsSame m s' → LendsSame s s'
-  same_then a b = record { task = b.task ∙ a.task; host = b.host ∙ a.host; terminal = b.terminal ∙ a.terminal; sheet = b.sheet ∙ a.sheet; time = b.time
-      ∙ a.time }
+  same_then a b = record {
+    task = b.task ∙ a.task;
+    host = b.host ∙ a.host;
+    terminal = b.terminal ∙ a.terminal;
+    sheet = b.sheet ∙ a.sheet;
+    time = b.time
+        ∙ a.time;
+  }
 
 module _ {H T : Type 0} {by_host : Host.Ghosts H} {by_terminal : Terminal.Ghosts T} where
   -- nothing was asked; only the task may have another value
   pub still_at : {A : Type 0} {x y : A} {s : Step H T} {k : Task} → x ≡ y → Performs by_host by_terminal 0 (done y) s x
       (record s { task = record s.task { now = k } })
   still_at e =
-      record { trace = []; traces = (refl, e, refl); used = omega arith; same = record { task = refl; host = refl; terminal = refl; sheet = refl; time = refl }
+      record {
+        trace = [];
+        traces = (refl, e, refl);
+        used = omega arith;
+        same = record { task = refl; host = refl; terminal = refl; sheet = refl; time = refl };
       }
 
   -- the same run from a step whose task had another value
@@ -30,8 +40,18 @@ module _ {H T : Type 0} {by_host : Host.Ghosts H} {by_terminal : Terminal.Ghosts
       (record s { task = record s.task { now = k } }) x s' → Performs by_host by_terminal n t s x s'
   from_change u =
       let same = u.same in
-      record { trace = u.trace; traces = u.traces; used = u.used; same = record { task = same.task; host = same.host; terminal = same.terminal;
-          sheet = same.sheet; time = same.time } }
+      record {
+        trace = u.trace;
+        traces = u.traces;
+        used = u.used;
+        same = record {
+          task = same.task;
+          host = same.host;
+          terminal = same.terminal;
+          sheet = same.sheet;
+          time = same.time;
+        };
+      }
 
   -- the same run, with the tree at an equal value
   pub at_value : {A V : Type 0} (f : V → Interaction A) {v w : V} {n : ℕ} {s s' : Step H T} {x : A} → v ≡ w → Performs by_host by_terminal n (f v) s x s'
@@ -48,15 +68,25 @@ module _ {H T : Type 0} {by_host : Host.Ghosts H} {by_terminal : Terminal.Ghosts
 
   -- one call
   pub one_call : {c : Call} {a : Reply c} {s s' : Step H T} → Asks by_host by_terminal c s a s' → Performs by_host by_terminal 1 (call c) s a s'
-  one_call {c} {a} {s} {s'} k = record { trace = (c, a) ∷ []; traces = (a, step_world s', [], refl, k.recorded, (refl, refl, refl)); used = omega
-      (arith, k.recorded.2); same = k.same }
+  one_call {c} {a} {s} {s'} k = record {
+    trace = (c, a) ∷ [];
+    traces = (a, step_world s', [], refl, k.recorded, (refl, refl, refl));
+    used = omega
+        (arith, k.recorded.2);
+    same = k.same;
+  }
 
   -- one tree, and the one that follows from its value
   pub and_then : {A B : Type 0} (t : Interaction A) (f : A → Interaction B) {a b : ℕ} {s m s' : Step H T} {x : A} {y : B}
       → Performs by_host by_terminal a t s x m → Performs by_host by_terminal b (f x) m y s' → Performs by_host by_terminal (a + b) (bind t f) s y s'
   and_then t f {s = s} {m = m} {s' = s'} {x = x} {y = y} u v =
-      record { trace = u.trace ++ v.trace; traces = traces-bind (IsRecorded by_host by_terminal) t f (step_world s) (step_world m) (step_world s') u.trace
-      v.trace x y u.traces v.traces; used = omega (arith, u.used, v.used); same = same_then u.same v.same }
+      record {
+        trace = u.trace ++ v.trace;
+        traces = traces-bind (IsRecorded by_host by_terminal) t f (step_world s) (step_world m) (step_world s') u.trace
+            v.trace x y u.traces v.traces;
+        used = omega (arith, u.used, v.used);
+        same = same_then u.same v.same;
+      }
 
   -- fewer calls than allowed
   pub at_most : {A : Type 0} {t : Interaction A} {a : ℕ} {s s' : Step H T} {x : A} (b : ℕ) → a ≤ b → Performs by_host by_terminal a t s x s'

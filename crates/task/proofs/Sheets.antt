@@ -22,7 +22,7 @@ written_next xs ys i n x h = grind (arith, common_steps)
 front : {A : Type 0} (xs js : List A) (n k : ℕ) → k ≤ length xs → n ≤ k → (js ++ drop n (take k xs)) ++ drop k xs ≡ js ++ drop n xs
 front xs js n k full l =
     let behind : drop n (take k xs ++ drop k xs) ≡ drop n (take k xs) ++ drop k xs = drop-append-le n (take k xs) (drop k xs) (simp length-take (omega arith))
-        in
+    in
     append_assoc js (drop n (take k xs)) (drop k xs) ∙ ap (λ ys. js ++ ys) (sym behind ∙ ap (drop n) (take-append-drop k xs))
 
 pub journal-length : (p : List Event) → length (journal p) ≡ length p
@@ -52,16 +52,28 @@ module _ {H T : Type 0} {by_host : Host.Ghosts H} {by_terminal : Terminal.Ghosts
       → Conducts by_host by_terminal t (world_in (step_world o)) o.sheet.now y o'.used (record { host = h; terminal = m }) xs
   conducted {t = t} {o = o} {o' = o'} {x = x} z few ey eh em ex r =
       let run = apart by_host by_terminal t (step_world o) (step_world o') r.trace x (omega (arith, r.used)) r.traces in
-      rw (ey, eh, em, ex) (record { trace = r.trace; traces = run.0; count = omega (arith, run.1); room = omega (arith, run.1, r.used, few, z); sheet = simp
-          (z, zero-add) at run.2 })
+      rw (ey, eh, em, ex) (record {
+        trace = r.trace;
+        traces = run.0;
+        count = omega (arith, run.1);
+        room = omega (arith, run.1, r.used, few, z);
+        sheet = simp
+            (z, zero-add) at run.2;
+      })
 
   -- a run on the first eight places of a sheet is one on the sheet
   pub on_front : {A : Type 0} {t : Interaction A} {w w' : World H T} {xs ys : List Record} {x : A} {n : ℕ} → 8 ≤ length xs → Conducts by_host by_terminal t w
       (take 8 xs) x n w' ys → Conducts by_host by_terminal t w xs x n w' (ys ++ drop 8 xs)
   on_front {xs = xs} full r =
       let within : length r.trace ≤ 8 = omega (arith, r.room, length-take 8 xs) in
-      record { trace = r.trace; traces = r.traces; count = r.count; room = omega (arith, within, full); sheet = rw r.sheet
-          (front xs (journal r.trace) (length r.trace) 8 full within) }
+      record {
+        trace = r.trace;
+        traces = r.traces;
+        count = r.count;
+        room = omega (arith, within, full);
+        sheet = rw r.sheet
+            (front xs (journal r.trace) (length r.trace) 8 full within);
+      }
 
   -- what follows a run without a call
   pub then_done : {A B : Type 0} (t : Interaction A) (f : A → B) {w w' : World H T} {xs ys : List Record} {n : ℕ} {x : A} {y : B} → y ≡ f x

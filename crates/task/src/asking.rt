@@ -2,7 +2,7 @@
 // what is recorded as closures, which its contract had to tie to the call, and would be no shorter where it is called.
 ghost use Rattle.host.specs.Calls as Calls;
 ghost use Rattle.host.specs.Journal as Journal;
-ghost use Rattle.task.specs.Performs.{Asks, Records, HasRoom};
+ghost use Rattle.task.specs.Performs.{AsksHost, AsksTerminal, Records, HasRoom};
 
 use crate::step::Step;
 use host::command::SpawnOptions;
@@ -35,7 +35,8 @@ impl<H: Host, T: Terminal> Step<'_, H, T> {
         time: u64,
     ) -> Result<u32, Fault>
         requires { HasRoom 1 self.old }
-        ensures { Asks H.Host T.Terminal (Calls.to_host (Calls.spawn program options way time)) self.old result self.new }
+        ensures { AsksHost H.Host T.Terminal (Calls.spawn program options way time)
+            self.old result self.new }
     {
         let reply = self.host.spawn(program, options, way, time);
         let answer = reply.map_or_else(Answer::Fault, Answer::Child);
@@ -45,7 +46,7 @@ impl<H: Host, T: Terminal> Step<'_, H, T> {
 
     pub(crate) fn poll(&mut self, child: u32) -> Result<Option<ProcessEnd>, Fault>
         requires { HasRoom 1 self.old }
-        ensures { Asks H.Host T.Terminal (Calls.to_host (Calls.poll child)) self.old result self.new }
+        ensures { AsksHost H.Host T.Terminal (Calls.poll child) self.old result self.new }
     {
         let reply = self.host.poll(child);
         let answer = reply.map_or_else(Answer::Fault, |end| {
@@ -57,7 +58,7 @@ impl<H: Host, T: Terminal> Step<'_, H, T> {
 
     pub(crate) fn wait(&mut self, child: u32) -> Result<ProcessEnd, Fault>
         requires { HasRoom 1 self.old }
-        ensures { Asks H.Host T.Terminal (Calls.to_host (Calls.wait child)) self.old result self.new }
+        ensures { AsksHost H.Host T.Terminal (Calls.wait child) self.old result self.new }
     {
         let reply = self.host.wait(child);
         let answer = reply.map_or_else(Answer::Fault, Answer::End);
@@ -67,7 +68,7 @@ impl<H: Host, T: Terminal> Step<'_, H, T> {
 
     pub(crate) fn kill(&mut self, child: u32) -> Result<(), Fault>
         requires { HasRoom 1 self.old }
-        ensures { Asks H.Host T.Terminal (Calls.to_host (Calls.kill child)) self.old result self.new }
+        ensures { AsksHost H.Host T.Terminal (Calls.kill child) self.old result self.new }
     {
         let reply = self.host.kill(child);
         self.record(CallKind::Kill, child, 0, reply.into());
@@ -76,7 +77,7 @@ impl<H: Host, T: Terminal> Step<'_, H, T> {
 
     pub(crate) fn signal(&mut self, child: u32, signal: u8) -> Result<(), Fault>
         requires { HasRoom 1 self.old }
-        ensures { Asks H.Host T.Terminal (Calls.to_host (Calls.signal child signal)) self.old result self.new }
+        ensures { AsksHost H.Host T.Terminal (Calls.signal child signal) self.old result self.new }
     {
         let reply = self.host.signal(child, signal);
         self.record(CallKind::Signal, child, u32::from(signal), reply.into());
@@ -85,7 +86,7 @@ impl<H: Host, T: Terminal> Step<'_, H, T> {
 
     pub(crate) fn cont(&mut self, child: u32) -> Result<(), Fault>
         requires { HasRoom 1 self.old }
-        ensures { Asks H.Host T.Terminal (Calls.to_host (Calls.cont child)) self.old result self.new }
+        ensures { AsksHost H.Host T.Terminal (Calls.cont child) self.old result self.new }
     {
         let reply = self.host.cont(child);
         self.record(CallKind::Cont, child, 0, reply.into());
@@ -94,7 +95,7 @@ impl<H: Host, T: Terminal> Step<'_, H, T> {
 
     pub(crate) fn let_go(&mut self, child: u32)
         requires { HasRoom 1 self.old }
-        ensures { Asks H.Host T.Terminal (Calls.to_host (Calls.let_go child)) self.old tt self.new }
+        ensures { AsksHost H.Host T.Terminal (Calls.let_go child) self.old tt self.new }
     {
         self.host.let_go(child);
         self.record(CallKind::LetGo, child, 0, Answer::Nothing);
@@ -107,7 +108,8 @@ impl<H: Host, T: Terminal> Step<'_, H, T> {
         previous: Option<CommandState>,
     ) -> Result<SpawnOptions, Fault>
         requires { HasRoom 1 self.old }
-        ensures { Asks H.Host T.Terminal (Calls.to_host (Calls.hook number state previous)) self.old result self.new }
+        ensures { AsksHost H.Host T.Terminal (Calls.hook number state previous)
+            self.old result self.new }
     {
         let reply = self.host.hook(number, state, previous);
         let answer = reply.map_or_else(Answer::Fault, Answer::Options);
@@ -122,7 +124,8 @@ impl<H: Host, T: Terminal> Step<'_, H, T> {
         previous: Option<CommandState>,
     ) -> Result<(), Fault>
         requires { HasRoom 1 self.old }
-        ensures { Asks H.Host T.Terminal (Calls.to_host (Calls.routine number state previous)) self.old result self.new }
+        ensures { AsksHost H.Host T.Terminal (Calls.routine number state previous)
+            self.old result self.new }
     {
         let reply = self.host.routine(number, state, previous);
         self.record(CallKind::Routine, 0, u32::from(number), reply.into());
@@ -131,7 +134,7 @@ impl<H: Host, T: Terminal> Step<'_, H, T> {
 
     pub(crate) fn tell(&mut self, handler: u8, fault: Fault) -> Result<(), Fault>
         requires { HasRoom 1 self.old }
-        ensures { Asks H.Host T.Terminal (Calls.to_host (Calls.tell handler fault)) self.old result self.new }
+        ensures { AsksHost H.Host T.Terminal (Calls.tell handler fault) self.old result self.new }
     {
         let reply = self.host.tell(handler, fault);
         self.record(CallKind::Tell, 0, u32::from(fault.code), reply.into());
@@ -140,7 +143,7 @@ impl<H: Host, T: Terminal> Step<'_, H, T> {
 
     pub(crate) fn owner(&mut self) -> Option<u32>
         requires { HasRoom 1 self.old }
-        ensures { Asks H.Host T.Terminal (Calls.to_terminal Calls.owner) self.old result self.new }
+        ensures { AsksTerminal H.Host T.Terminal Calls.owner self.old result self.new }
     {
         let reply = self.terminal.owner();
         let answer = reply.map_or(Answer::Nothing, Answer::Group);
@@ -150,7 +153,7 @@ impl<H: Host, T: Terminal> Step<'_, H, T> {
 
     pub(crate) fn acquire(&mut self, group: u32) -> Result<(), Fault>
         requires { HasRoom 1 self.old }
-        ensures { Asks H.Host T.Terminal (Calls.to_terminal (Calls.acquire group)) self.old result self.new }
+        ensures { AsksTerminal H.Host T.Terminal (Calls.acquire group) self.old result self.new }
     {
         let reply = self.terminal.acquire(group);
         self.record(CallKind::Acquire, 0, group, reply.into());
@@ -159,7 +162,7 @@ impl<H: Host, T: Terminal> Step<'_, H, T> {
 
     pub(crate) fn release(&mut self)
         requires { HasRoom 1 self.old }
-        ensures { Asks H.Host T.Terminal (Calls.to_terminal Calls.release) self.old tt self.new }
+        ensures { AsksTerminal H.Host T.Terminal Calls.release self.old tt self.new }
     {
         self.terminal.release();
         self.record(CallKind::Release, 0, 0, Answer::Nothing);

@@ -61,7 +61,8 @@ impl Job {
 
     // Sends the command a signal, stops it if it has not ended within the grace, and starts it.
     pub fn restart_with_signal(&mut self, signal: u8, grace: u32) -> Result<Ticket, Refusal>
-        ensures { Answers (Spec.send (Sends.RestartWithSignal signal grace)) self.old result self.new }
+        ensures { Answers (Spec.send (Sends.RestartWithSignal signal grace))
+            self.old result self.new }
     {
         self.send(Send::RestartWithSignal { signal, grace })
     }
@@ -75,7 +76,8 @@ impl Job {
 
     // Sends the command a signal if it is running, and restarts it at its end, or once the grace is over.
     pub fn try_restart_with_signal(&mut self, signal: u8, grace: u32) -> Result<Ticket, Refusal>
-        ensures { Answers (Spec.send (Sends.TryRestartWithSignal signal grace)) self.old result self.new }
+        ensures { Answers (Spec.send (Sends.TryRestartWithSignal signal grace))
+            self.old result self.new }
     {
         self.send(Send::TryRestartWithSignal { signal, grace })
     }

@@ -134,7 +134,8 @@ impl Job {
         sheet: &mut [Record],
         time: u64,
     ) -> Result<Stepped, Refusal>
-        ensures { StepsOrRefuses H.Host T.Terminal (Spec.pause_step (T.Terminal.book terminal.old).own) time
+        ensures { StepsOrRefuses H.Host T.Terminal
+            (Spec.pause_step (T.Terminal.book terminal.old).own) time
             (moment self.old host.old terminal.old sheet.old) result
             (moment self.new host.new terminal.new sheet.new) }
     {
@@ -161,7 +162,8 @@ impl Job {
         sheet: &mut [Record],
         time: u64,
     ) -> Result<Stepped, Refusal>
-        ensures { StepsOrRefuses H.Host T.Terminal (Spec.tree_of kind (T.Terminal.book terminal.old).own)
+        ensures { StepsOrRefuses H.Host T.Terminal
+            (Spec.tree_of kind (T.Terminal.book terminal.old).own)
             time (moment self.old host.old terminal.old sheet.old) result
             (moment self.new host.new terminal.new sheet.new) }
     {

@@ -29,7 +29,7 @@ invariant_of-self-clause-granted g c =
     let restart = c.is_some-restart.result in
     let run = c.poll-outcome.ensures in
     (traced (IsAnswered g.H.Host g.T.Terminal) t c.args.self.now.granted (Polled restart) (poll_child restart c.args.time t) _ _ run.trace _
-        (poll_fits restart c.args.time t) run.traces _ _ (fitting t)).fits.0
+    (poll_fits restart c.args.time t) run.traces _ _ (fitting t)).fits.0
 
 pub returns-clause-stepped : goal.returns-clause-stepped
 returns-clause-stepped g c =
@@ -38,7 +38,7 @@ returns-clause-stepped g c =
     let may : may_step c.args.time (length c.args.sheet.now) v ≡ Ok tt = grind (arith, common_steps, nat_tests) in
     accepted g.met.H.Host.keeps g.met.T.Terminal.keeps Child 0 c.args.time may
     (then_done (poll_child restart c.args.time v.task) (poll_end c.args.time v) (cc) (at_value (λ (b : Bool). poll_child b c.args.time v.task)
-        (c.is_some-restart.ensures ∙ ap is_some c.memory.ensures)
+    (c.is_some-restart.ensures ∙ ap is_some c.memory.ensures)
     (on_front c.in-Some.ensures.cases.enough (rw c.in-Some.ensures.cases.same at c.poll-outcome.ensures))))
 
 pub returns-clause-ended : goal.returns-clause-ended

@@ -24,7 +24,7 @@ use Rattle.supervisor.proofs.job.Job.control_step.Goals as goal
 pub settle-requires-clause-room : goal.settle-requires-clause-room
 settle-requires-clause-room g c =
     ending_room _ _ (take_in c.args.time _ c.in-Some-receive.received _ (c.args.self.now.in_order (grind (arith, nat_tests)))
-        c.in-Some-receive.ensures.taken).order
+    c.in-Some-receive.ensures.taken).order
 
 -- what holds at the end of the control that was taken
 ends : (g : Over) (c : goal.After-closes-self g) → let t = task_view c.args.self.now.task in
@@ -35,7 +35,7 @@ ends g c =
     let made = c.in-Some-receive.received.message.control in
     let run = c.control-outcome.ensures in
     traced (IsAnswered g.H.Host g.T.Terminal) t c.args.self.now.granted (Carried made (is_running t.state)) (control made c.args.time t) _ _ run.trace _
-        (control_fits made c.args.time t) run.traces _ _ (fitting t)
+    (control_fits made c.args.time t) run.traces _ _ (fitting t)
 
 in_order : (g : Over) (c : goal.After-closes-self g) → IsInOrder [] (mailbox_view c.settle.new.self)
 in_order g c =
@@ -59,7 +59,7 @@ returns-in_default-receive-clause-stepped g c =
     let may : may_step c.args.time (length c.args.sheet.now) (job_view c.args.self.now) ≡ Ok tt = grind (arith, common_steps, nat_tests) in
     accepted g.met.H.Host.keeps g.met.T.Terminal.keeps Control 0 c.args.time may
     (on_front c.in-Some.ensures.cases.enough
-        (rw c.in_default-receive.ensures.taken (rw c.in-Some.ensures.cases.same (silent (cc (c.in_default-receive.ensures.idle refl))))))
+    (rw c.in_default-receive.ensures.taken (rw c.in-Some.ensures.cases.same (silent (cc (c.in_default-receive.ensures.idle refl))))))
 
 pub returns-clause-stepped : goal.returns-clause-stepped
 returns-clause-stepped g c =
@@ -68,7 +68,7 @@ returns-clause-stepped g c =
     let may : may_step c.args.time (length c.args.sheet.now) v ≡ Ok tt = grind (arith, common_steps, nat_tests) in
     accepted g.met.H.Host.keeps g.met.T.Terminal.keeps Control 0 c.args.time may
     (rw c.in-Some-receive.ensures.taken (then_done (control r.message.control c.args.time v.task) (control_end c.args.time r (mailbox_view c.receive.new.self))
-        (cc) (on_front c.in-Some.ensures.cases.enough (rw (c.in-Some.ensures.cases.same) at c.control-outcome.ensures))))
+    (cc) (on_front c.in-Some.ensures.cases.enough (rw (c.in-Some.ensures.cases.same) at c.control-outcome.ensures))))
 
 pub returns-clause-deadline : goal.returns-clause-deadline
 returns-clause-deadline g c = (control_accepted c.args.time _ _ _ (c.args.self.now.in_order (grind (arith, nat_tests))) (returns-clause-stepped g c).1).0

@@ -21,7 +21,7 @@ invariant_of-self-clause-granted g c =
     let t = task_view c.args.self.now.task in
     let run = c.pause-taken.ensures in
     (traced (IsAnswered g.H.Host g.T.Terminal) t c.args.self.now.granted (λ b x. FitsTask no_calls x.0 b) (Tree.pause own t) _ _ run.trace _ (pause_fits own t)
-        run.traces _ _ (fitting t)).0
+    run.traces _ _ (fitting t)).0
 
 pub returns : goal.returns
 returns g c =
@@ -30,4 +30,4 @@ returns g c =
     let may : may_step c.args.time (length c.args.sheet.now) v ≡ Ok tt = grind (arith, common_steps, nat_tests) in
     accepted g.met.H.Host.keeps g.met.T.Terminal.keeps Pause own c.args.time may
     (then_done (Tree.pause own v.task) (pause_end c.args.time v) (cc) (on_front c.in-Some.ensures.cases.enough
-        (rw c.in-Some.ensures.cases.same at c.pause-taken.ensures)))
+    (rw c.in-Some.ensures.cases.same at c.pause-taken.ensures)))

@@ -11,7 +11,7 @@ returns-in-Running g c =
     let t = task_of c.yield_foreground.new.self in
     and_then (Tree.yield (task_of c.args.self.now)) _ c.yield_foreground.ensures
     (at_value (λ (state : CommandState). Tree.delete_in state t) (sym c.in-Running.is) (and_then (call _) _ (one_call c.let_go.ensures)
-        (still_at (rw c.let_go.ensures.task))))
+    (still_at (rw c.let_go.ensures.task))))
 
 pub returns-in_default : goal.returns-in_default
 returns-in_default g c =

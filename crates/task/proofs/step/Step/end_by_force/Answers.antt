@@ -13,7 +13,7 @@ pub returns-in_err-end : goal.returns-in_err-end
 returns-in_err-end g c =
     let p = err_from_is_err_and c.from_residual-in_err-end.result c.from_residual-in_err-end.ensures.1 in
     rw (p.1, p.2) (and_then (call _) _ (one_call c.in_ok-kill.ensures) (and_then (call _) _ (one_call c.in_err-end.ensures)
-        (still_at (rw (c.wait.ensures.task, c.kill.ensures.task)))))
+    (still_at (rw (c.wait.ensures.task, c.kill.ensures.task)))))
 
 pub returns : goal.returns
 returns g c = and_then (call _) _ (one_call c.in_ok-kill.ensures) (and_then (call _) _ (one_call c.in_ok-end.ensures)

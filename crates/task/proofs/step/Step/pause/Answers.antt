@@ -24,6 +24,6 @@ returns g c =
     let signal = c.in_ok-signal.signal in
     let left = items_of c.pop.new.self in
     rw (takes t.state t.foreground.pauses left c.args.own c.in-Running.child c.in-Running.started signal t c.in-Running.is c.in_ok-signal.ensures.answer
-        c.pop.ensures.after)
+    c.pop.ensures.after)
     (from_change (and_then (Tree.take_pause c.args.own c.in-Running.child signal (Tree.with_pauses left t)) (λ t₁. done (t₁, Some signal)) c.take_pause.ensures
-        (still_at refl)))
+    (still_at refl)))

@@ -19,7 +19,7 @@ returns-in-Ok g c =
     (at_value (λ (r : Result ⊤ Fault). Tree.replace_after s.time (t, r)) (sym c.in-Ok.is)
     (at_value (λ (k : Task). Tree.begin s.time Ended (task_view k)) c.report.ensures.task
     (at_value (λ (time : ℕ). Tree.begin time Ended (task_of c.report.new.self)) (c.report.ensures.told.same.time ∙ c.end_by_force-forced.ensures.same.time)
-        c.begin.ensures)))
+    c.begin.ensures)))
 
 pub returns-in-Err : goal.returns-in-Err
 returns-in-Err g c =

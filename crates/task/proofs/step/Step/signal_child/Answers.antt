@@ -16,5 +16,5 @@ returns g c =
     (at_value course c.sent_as.ensures
     (and_then (Tree.report (part c.sent_as.result)) _
     (telling (part c.sent_as.result) (and_then (call _) _ (one_call c.signal-signalled.ensures)
-        (still_at {x = (task_of c.signal-signalled.new.self, c.signal-signalled.result)} (rw c.signal-signalled.ensures.task))) c.report.ensures.told)
+    (still_at {x = (task_of c.signal-signalled.new.self, c.signal-signalled.result)} (rw c.signal-signalled.ensures.task))) c.report.ensures.told)
     (still_at (rw (c.report.ensures.task, c.unless_faulted.ensures)))))

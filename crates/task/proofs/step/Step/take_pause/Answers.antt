@@ -9,9 +9,9 @@ pub returns-in-21 : goal.returns-in-21
 returns-in-21 g c =
     let t = task_of c.args.self.now in
     let tree : Tree.take_pause c.args.own c.args.child c.args.signal t ≡ bind (Tree.try_grant c.args.own c.args.child t)
-        (Tree.continue_child c.args.child c.args.signal) = grind arith in
+    (Tree.continue_child c.args.child c.args.signal) = grind arith in
     rw tree (and_then (Tree.try_grant c.args.own c.args.child t) (Tree.continue_child c.args.child c.args.signal) c.try_grant-in-21.ensures
-        c.continue_child.ensures)
+    c.continue_child.ensures)
 
 pub returns-in_default : goal.returns-in_default
 returns-in_default g c =
