@@ -1,5 +1,6 @@
 -- The original: the job task of watchexec-supervisor 6.0.0 on Unix, arm by arm as `start_job` has it, as interaction trees. Names are
-XX
+-- the Rust's. It stands for itself: of the job it shares the words for commands, controls, sends, queues, steps, states, calls and
+-- faults, and nothing of what is done.
 use Rattle.std.specs.Prelude.{ℕ, ◌+◌, Bool, true, false, not, ◌&&◌, ◌||◌, if◌then◌else◌, List, [], ◌∷◌, ◌++◌, Some, None, Ok, Err, Option, Result, ◌==◌, nat_le, is_some, is_ok, ⊤}
 use Rattle.std.specs.Result.{result_unwrap_or}
 use Rattle.host.specs.declared.fault.Fault.{Fault}
