@@ -36,28 +36,25 @@ module _ (h : SimulatedHost) where
 
   rules-spawn : (program : ℕ) (options : SpawnOptions) (way time : ℕ) (b : Bool) → has_room s.next s.children ≡ b → Rules (spawn program options way time) (if b then Ok s.next else Err (fault 11)) (if b then s.children ++ child s.next Going ∷ [] else s.children)
   rules-spawn program options way time true e =
-      let room : (length s.children < 16) × (s.next < 2 ^ 31) = grind (arith, nat_tests) in
       let new = off_roster s.next s.children (λ k c l e. omega (arith, h.children.below k c l)) in
-      (roster_of-push s.children (child s.next Going), (new, omega (arith, h.children.begun), room.1, rw (len_of_roster s.children h.children.distinct) room.0))
-  rules-spawn program options way time false e = (refl, ((omega arith, omega arith), λ _. refl))
+      grind (arith, nat_tests, new, roster_of-push s.children (child s.next Going), h.children.begun, len_of_roster s.children h.children.distinct)
+  rules-spawn program options way time false e = grind arith
 
   -- a call about the child n, by its life
 
   rules-poll : (n : ℕ) (o : Option Life) → is_on_roster n roster ≡ is_some o → AnswersEnd (poll n) (poll_answer o) → Rules (poll n) (poll_answer o) (after_report n o s.children)
-  rules-poll n None here end = (refl, ((omega arith, omega arith), λ _. refl))
+  rules-poll n None here end = grind arith
   rules-poll n (Some (Ended end)) here fits = (roster_of-without n s.children, (here, fits))
-  rules-poll n (Some life) here end = (refl, here)
+  rules-poll n (Some life) here end = grind arith
 
   rules-wait : (n : ℕ) (o : Option Life) → is_on_roster n roster ≡ is_some o → AnswersEnd (wait n) (wait_answer o) → Rules (wait n) (wait_answer o) (after_report n o s.children)
-  rules-wait n None here end = (refl, ((omega arith, omega arith), λ _. refl))
+  rules-wait n None here end = grind arith
   rules-wait n (Some (Ended end)) here fits = (roster_of-without n s.children, (here, fits))
-  rules-wait n (Some life) here end = (refl, ((omega arith, omega arith), λ off. cc))
+  rules-wait n (Some life) here end = grind arith
 
   rules-signal : (n number : ℕ) (o : Option Life) → is_on_roster n roster ≡ is_some o → Rules (signal n number) (signal_answer number o) (send_signal s.mask number n o s.children)
-  rules-signal n number None here = (refl, ((omega arith, omega arith), λ _. refl))
-  rules-signal n number (Some life) here =
-      (grind (arith, roster_of-with_life n (deliver s.mask number life) s.children)
-      , cond_both (nat_le number 31) (Ok tt) (Err (fault 22)) (HostFits 16 roster (signal n number)) (λ _. here) (λ _. ((omega arith, omega arith), λ off. cc)))
+  rules-signal n number None here = grind arith
+  rules-signal n number (Some life) here = grind (arith, roster_of-with_life n (deliver s.mask number life) s.children)
 
   rules : (c : HostCall) → AnswersEnd c (answer s c) → Rules c (answer s c) (children_after s c)
   rules (spawn program options way time) end = rules-spawn program options way time _ refl
@@ -75,4 +72,4 @@ module _ (h : SimulatedHost) where
   pub keeps_so : (c : HostCall) (a : HostReply c) (t : HostView) → (a ≡ answer s c) × (t ≡ state_after s c) × AnswersEnd c a → HostKeeps 16 (book_of s) c a (book_of t)
   keeps_so c a t did =
       let r = rules c (rw did.0 at did.2) in
-      rw (did.0, did.1) (record { moved = ap (λ (n : Roster). record { roster = n; served = next_count s.served; spawns = spawns_after s.spawns c }) r.0; fits = r.1 })
+      rw (did.0, did.1) (record { moved = cc (r.0); fits = r.1 })

@@ -20,7 +20,7 @@ fn spawned(host: &mut SimulatedHost) -> Result<u32, Fault> {
 }
 
 fn is_stopped(host: &SimulatedHost, child: u32) -> bool {
-    matches!(host.roster.life(child), Some(Life::Stopped))
+    matches!(host.children.life(child), Some(Life::Stopped))
 }
 
 #[test]
