@@ -88,7 +88,7 @@ impl<A: AsSlice<i64> + Drop> Host for PreparedHost<A> {
 
     ghost bounded = { λ h. bounded h.child };
 
-    #[tactic(auto, using(crate::specs::PreparedBook::is_full_of_roster))]
+    #[tactic(auto, using(crate::specs::PreparedBook::len_of_roster))]
     fn is_full(&self) -> bool {
         self.child.is_some()
     }
