@@ -1,19 +1,17 @@
 -- The book of the simulated host keeps its rules.
-use Rattle.std.specs.Prelude.{◌≡◌, ◌≢◌, ℕ, suc, ◌^◌, ◌<◌, ◌≤◌, Bool, true, false, if◌then◌else◌, not, ◌&&◌, List, [], ◌∷◌, ◌++◌, length, All, AllPairs, is_some, Some, None, Ok, Err, Option, Result, nat_le, refl, ⊤}
-use Rattle.std.proofs.Common.{ap, ◌∙◌, arith}
+use Rattle.std.specs.Prelude.{◌≡◌, ℕ, ◌≤◌, Bool, true, false, if◌then◌else◌, List, [], ◌∷◌, ◌++◌, is_some, Some, None, Ok, Err, Option, refl}
+use Rattle.std.proofs.Common.{arith}
 use Rattle.std.specs.FinSet as set
 use Rattle.std.proofs.lemmas.Bool.Decides.{nat_tests}
-use Rattle.std.proofs.lemmas.Bool.{cond_both}
 use Rattle.host.specs.Fault.{fault}
-use Rattle.host.specs.declared.fault.Fault.{Fault}
 use Rattle.host.specs.declared.command.SpawnOptions.{SpawnOptions}
 use Rattle.host.specs.Calls.{HostCall, spawn, poll, wait, kill, signal, cont, let_go, hook, routine, tell, HostReply}
-use Rattle.host.specs.Books.{HostFits, HostKeeps, IsFault, MayFault, Roster, next_count, is_on_roster, roster_after, spawns_after, strike}
+use Rattle.host.specs.Books.{HostFits, HostKeeps, Roster, is_on_roster, roster_after}
 use Rattle.hosts.specs.declared.child.Life.{Life}
 use Rattle.hosts.specs.declared.child.Life.TheVariants.{Going, Ended}
 use Rattle.hosts.specs.declared.child.Child.{Child}
 use Rattle.hosts.specs.declared.simulated.SimulatedHost.{SimulatedHost}
-use Rattle.hosts.specs.Children.{after_report, child, children_without, has_room, items, life_of, roster_of, with_life}
+use Rattle.hosts.specs.Children.{after_report, child, has_room, items, roster_of}
 use Rattle.hosts.specs.Rosters.{is_on_roster-roster_of, len_of_roster, off_roster, roster_of-push, roster_of-with_life, roster_of-without}
 use Rattle.hosts.specs.Signals.{deliver}
 use Rattle.hosts.specs.Simulated.{AnswersEnd, HostView, answer, book_of, children_after, poll_answer, send_signal, signal_answer, state_after, view, wait_answer}
@@ -34,7 +32,8 @@ module _ (h : SimulatedHost) where
   abbrev Rules : (c : HostCall) → HostReply c → List Child → Type 0
   Rules c a cs = (roster_of cs ≡ roster_after roster c a) × HostFits 16 roster c a
 
-  rules-spawn : (program : ℕ) (options : SpawnOptions) (way time : ℕ) (b : Bool) → has_room s.next s.children ≡ b → Rules (spawn program options way time) (if b then Ok s.next else Err (fault 11)) (if b then s.children ++ child s.next Going ∷ [] else s.children)
+  rules-spawn : (program : ℕ) (options : SpawnOptions) (way time : ℕ) (b : Bool) → has_room s.next s.children ≡ b
+      → Rules (spawn program options way time) (if b then Ok s.next else Err (fault 11)) (if b then s.children ++ child s.next Going ∷ [] else s.children)
   rules-spawn program options way time true e =
       let new = off_roster s.next s.children (λ k c l e. omega (arith, h.children.below k c l)) in
       grind (arith, nat_tests, new, roster_of-push s.children (child s.next Going), h.children.begun, len_of_roster s.children h.children.distinct)
@@ -42,17 +41,20 @@ module _ (h : SimulatedHost) where
 
   -- a call about the child n, by its life
 
-  rules-poll : (n : ℕ) (o : Option Life) → is_on_roster n roster ≡ is_some o → AnswersEnd (poll n) (poll_answer o) → Rules (poll n) (poll_answer o) (after_report n o s.children)
+  rules-poll : (n : ℕ) (o : Option Life) → is_on_roster n roster ≡ is_some o → AnswersEnd (poll n) (poll_answer o)
+      → Rules (poll n) (poll_answer o) (after_report n o s.children)
   rules-poll n None here end = grind arith
   rules-poll n (Some (Ended end)) here fits = (roster_of-without n s.children, (here, fits))
   rules-poll n (Some life) here end = grind arith
 
-  rules-wait : (n : ℕ) (o : Option Life) → is_on_roster n roster ≡ is_some o → AnswersEnd (wait n) (wait_answer o) → Rules (wait n) (wait_answer o) (after_report n o s.children)
+  rules-wait : (n : ℕ) (o : Option Life) → is_on_roster n roster ≡ is_some o → AnswersEnd (wait n) (wait_answer o)
+      → Rules (wait n) (wait_answer o) (after_report n o s.children)
   rules-wait n None here end = grind arith
   rules-wait n (Some (Ended end)) here fits = (roster_of-without n s.children, (here, fits))
   rules-wait n (Some life) here end = grind arith
 
-  rules-signal : (n number : ℕ) (o : Option Life) → is_on_roster n roster ≡ is_some o → Rules (signal n number) (signal_answer number o) (send_signal s.mask number n o s.children)
+  rules-signal : (n number : ℕ) (o : Option Life) → is_on_roster n roster ≡ is_some o
+      → Rules (signal n number) (signal_answer number o) (send_signal s.mask number n o s.children)
   rules-signal n number None here = grind arith
   rules-signal n number (Some life) here = grind (arith, roster_of-with_life n (deliver s.mask number life) s.children)
 
@@ -69,7 +71,8 @@ module _ (h : SimulatedHost) where
   rules (tell handler told) end = (refl, tt)
 
   -- each call, answered and moved so, keeps the rules of the book
-  pub keeps_so : (c : HostCall) (a : HostReply c) (t : HostView) → (a ≡ answer s c) × (t ≡ state_after s c) × AnswersEnd c a → HostKeeps 16 (book_of s) c a (book_of t)
+  pub keeps_so : (c : HostCall) (a : HostReply c) (t : HostView) → (a ≡ answer s c) × (t ≡ state_after s c) × AnswersEnd c a
+      → HostKeeps 16 (book_of s) c a (book_of t)
   keeps_so c a t did =
       let r = rules c (rw did.0 at did.2) in
       rw (did.0, did.1) (record { moved = cc (r.0); fits = r.1 })

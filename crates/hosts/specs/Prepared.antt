@@ -97,7 +97,7 @@ child_after child c a = child
 abbrev pub state_after : PreparedView → HostCall → PreparedView
 state_after s c =
     record (if takes s.child c then take_answer s else s)
-      { child = child_after s.child c (answer s c); served = next_count s.served; spawns = spawns_after s.spawns c }
+    { child = child_after s.child c (answer s c); served = next_count s.served; spawns = spawns_after s.spawns c }
 
 -- a call of a host was answered so, and left the host so
 abbrev pub Did : {A : Type 0} → (A → List ℤ) → PreparedHost A → (c : HostCall) → HostReply c → PreparedHost A → Type 0

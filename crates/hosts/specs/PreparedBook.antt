@@ -1,5 +1,5 @@
 -- The book of the prepared host keeps its rules.
-use Rattle.std.specs.Prelude.{◌≡◌, ℕ, ◌+◌, ◌^◌, ◌<◌, ◌≤◌, Bool, true, false, if◌then◌else◌, is_some, slice_get, Some, None, Ok, Err, Option, Result, ◌==◌, nat_le, nat_lt, ℤ, pos, negsuc, refl}
+use Rattle.std.specs.Prelude.{◌≡◌, ℕ, ◌+◌, ◌≤◌, Bool, true, false, if◌then◌else◌, is_some, slice_get, Some, None, Ok, Err, Option, Result, nat_lt, ℤ, pos, negsuc, refl}
 use Rattle.std.specs.FinSet as set
 use Rattle.std.specs.Cmp.{nat_cmp_total}
 use Rattle.std.specs.FinSet.{members, nat_cmp-IsAntisymmetric, same_set}
@@ -12,7 +12,7 @@ use Rattle.host.specs.declared.command.SpawnOptions.{SpawnOptions}
 use Rattle.host.specs.declared.state.ProcessEnd.{ProcessEnd}
 use Rattle.host.specs.declared.state.ProcessEnd.TheVariants.{Exited, Signalled, Continued}
 use Rattle.host.specs.Calls.{HostCall, spawn, poll, wait, kill, signal, cont, let_go, hook, routine, tell, HostReply}
-use Rattle.host.specs.Books.{HostFits, HostKeeps, IsEnd, IsFault, MayFault, Roster, is_on_roster, next_count, roster_after, spawns_after, strike}
+use Rattle.host.specs.Books.{HostFits, HostKeeps, IsEnd, IsFault, MayFault, Roster, is_on_roster, roster_after, strike}
 use Rattle.host.specs.Command.{options_of}
 use Rattle.hosts.specs.Numbers.{child_of, end_of, nothing_of, poll_of}
 use Rattle.hosts.specs.Prepared.{PreparedView, answer, answer_about, book_of, child_after, is_child, next_answer, read, roster_of, state_after}
@@ -78,7 +78,7 @@ module _ (s : PreparedView) where
   rules-spawn program options way time (Some n) e = grind arith
   rules-spawn program options way time None e =
       next_fits child_of (Rules (spawn program options way time))
-        (λ f h. grind (arith, members, e)) (λ n child said. grind (arith, nat_tests, members, e, said)) s
+      (λ f h. grind (arith, members, e)) (λ n child said. grind (arith, nat_tests, members, e, said)) s
 
   -- what holds of a fit fault, and of a value where n is the child, holds of the answer about n
   about : {A : Type 0} (n : ℕ) (value_of : ℕ → Option A) (P : Result A Fault → Type 0) → ((f : Fault) → MayFault n roster f → P (Err f))

@@ -1,5 +1,5 @@
 -- The roster of a list of children, when these change.
-use Rattle.std.specs.Prelude.{◌≡◌, ◌≢◌, ℕ, suc, false, not, ◌&&◌, List, [], ◌∷◌, ◌++◌, length, map, All, AllPairs, is_some, refl}
+use Rattle.std.specs.Prelude.{◌≡◌, ◌≢◌, ℕ, suc, false, not, ◌&&◌, List, [], ◌∷◌, ◌++◌, length, All, AllPairs, is_some, refl}
 use Rattle.std.proofs.Common.{arith}
 use Rattle.std.proofs.lemmas.Bool.Decides.{nat_tests}
 use Rattle.std.proofs.lemmas.List.{map-append}
@@ -24,7 +24,8 @@ pub roster_of-with_life : (n : ℕ) (life : Life) (cs : List Child) → roster_o
 roster_of-with_life n life [] = refl
 roster_of-with_life n life (c ∷ cs) = grind (arith, nat_tests, roster_of-with_life n life cs)
 
-pub is_on_roster-without : (n q : ℕ) (cs : List Child) → is_on_roster q (roster_of (children_without n cs)) ≡ (not (eq_by_cmp nat_cmp q n) && is_on_roster q (roster_of cs))
+pub is_on_roster-without : (n q : ℕ) (cs : List Child)
+    → is_on_roster q (roster_of (children_without n cs)) ≡ (not (eq_by_cmp nat_cmp q n) && is_on_roster q (roster_of cs))
 is_on_roster-without n q [] = grind (arith, members)
 is_on_roster-without n q (c ∷ cs) = grind (arith, nat_tests, members, is_on_roster-without n q cs)
 

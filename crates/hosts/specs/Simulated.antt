@@ -100,7 +100,7 @@ count_call s = record s { served = next_count s.served }
 
 -- every call is served, and a spawn counts as one, also if it faults
 abbrev pub state_after : HostView → HostCall → HostView
-state_after s c = record { children = children_after s c; next = next_after s c; mask = s.mask; options = s.options; served = next_count s.served; spawns = spawns_after s.spawns c }
+state_after s c = record s { children = children_after s c; next = next_after s c; served = next_count s.served; spawns = spawns_after s.spawns c }
 
 -- an end that is answered is one that a process may have
 abbrev pub AnswersEnd : (c : HostCall) → HostReply c → Type 0

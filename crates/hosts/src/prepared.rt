@@ -63,10 +63,8 @@ impl<A: AsSlice<i64> + Drop> PreparedHost<A> {
     // Takes the answer to a call that names a child, which has to be on the roster.
     fn take_for<T: FromNumber>(&mut self, child: u32) -> Result<T, Fault>
         ensures answer { result ≡ answer_about child T.value_of (view A.items self.old) }
-        ensures after {
-            let s = view A.items self.old in
-            view A.items self.new ≡ (if is_child child s.child then take_answer s else s)
-        }
+        ensures after { let s = view A.items self.old in
+            view A.items self.new ≡ (if is_child child s.child then take_answer s else s) }
     {
         if self.child != Some(child) {
             return Err(Fault::NO_CHILD);
