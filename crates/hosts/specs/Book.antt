@@ -29,11 +29,11 @@ module _ (h : SimulatedHost) where
   roster = roster_of s.children
 
   -- a call answered so moves the roster as it leaves the children, and the answer fits
-  abbrev Rules : (c : HostCall) → HostReply c → List Child → Type 0
-  Rules c a cs = (roster_of cs ≡ roster_after roster c a) × HostFits 16 roster c a
+  abbrev KeepsRules : (c : HostCall) → HostReply c → List Child → Type 0
+  KeepsRules c a cs = (roster_of cs ≡ roster_after roster c a) × HostFits 16 roster c a
 
   rules-spawn : (program : ℕ) (options : SpawnOptions) (way time : ℕ) (b : Bool) → has_room s.next s.children ≡ b
-      → Rules (spawn program options way time) (if b then Ok s.next else Err (fault 11)) (if b then s.children ++ child s.next Going ∷ [] else s.children)
+      → KeepsRules (spawn program options way time) (if b then Ok s.next else Err (fault 11)) (if b then s.children ++ child s.next Going ∷ [] else s.children)
   rules-spawn program options way time true e =
       let new = off_roster s.next s.children (λ k c l e. omega (arith, h.children.below k c l)) in
       grind (arith, nat_tests, new, roster_of-push s.children (child s.next Going), h.children.begun, len_of_roster s.children h.children.distinct)
@@ -42,23 +42,23 @@ module _ (h : SimulatedHost) where
   -- a call about the child n, by its life
 
   rules-poll : (n : ℕ) (o : Option Life) → is_on_roster n roster ≡ is_some o → AnswersEnd (poll n) (poll_answer o)
-      → Rules (poll n) (poll_answer o) (after_report n o s.children)
+      → KeepsRules (poll n) (poll_answer o) (after_report n o s.children)
   rules-poll n None here end = grind arith
   rules-poll n (Some (Ended end)) here fits = (roster_of-without n s.children, (here, fits))
   rules-poll n (Some life) here end = grind arith
 
   rules-wait : (n : ℕ) (o : Option Life) → is_on_roster n roster ≡ is_some o → AnswersEnd (wait n) (wait_answer o)
-      → Rules (wait n) (wait_answer o) (after_report n o s.children)
+      → KeepsRules (wait n) (wait_answer o) (after_report n o s.children)
   rules-wait n None here end = grind arith
   rules-wait n (Some (Ended end)) here fits = (roster_of-without n s.children, (here, fits))
   rules-wait n (Some life) here end = grind arith
 
   rules-signal : (n number : ℕ) (o : Option Life) → is_on_roster n roster ≡ is_some o
-      → Rules (signal n number) (signal_answer number o) (send_signal s.mask number n o s.children)
+      → KeepsRules (signal n number) (signal_answer number o) (send_signal s.mask number n o s.children)
   rules-signal n number None here = grind arith
   rules-signal n number (Some life) here = grind (arith, roster_of-with_life n (deliver s.mask number life) s.children)
 
-  rules : (c : HostCall) → AnswersEnd c (answer s c) → Rules c (answer s c) (children_after s c)
+  rules : (c : HostCall) → AnswersEnd c (answer s c) → KeepsRules c (answer s c) (children_after s c)
   rules (spawn program options way time) end = rules-spawn program options way time _ refl
   rules (poll n) end = rules-poll n _ (is_on_roster-roster_of n s.children) end
   rules (wait n) end = rules-wait n _ (is_on_roster-roster_of n s.children) end

@@ -70,14 +70,14 @@ module _ (s : PreparedView) where
   roster = roster_of s.child
 
   -- a call answered so moves the roster as it leaves the child, and the answer fits
-  abbrev Rules : (c : HostCall) → HostReply c → Type 0
-  Rules c a = (roster_of (child_after s.child c a) ≡ roster_after roster c a) × HostFits 1 roster c a
+  abbrev KeepsRules : (c : HostCall) → HostReply c → Type 0
+  KeepsRules c a = (roster_of (child_after s.child c a) ≡ roster_after roster c a) × HostFits 1 roster c a
 
   rules-spawn : (program : ℕ) (options : SpawnOptions) (way time : ℕ) (o : Option ℕ) → s.child ≡ o
-      → Rules (spawn program options way time) (if is_some o then Err (fault 11) else next_answer child_of s)
+      → KeepsRules (spawn program options way time) (if is_some o then Err (fault 11) else next_answer child_of s)
   rules-spawn program options way time (Some n) e = grind arith
   rules-spawn program options way time None e =
-      next_fits child_of (Rules (spawn program options way time))
+      next_fits child_of (KeepsRules (spawn program options way time))
       (λ f h. grind (arith, members, e)) (λ n child said. grind (arith, nat_tests, members, e, said)) s
 
   -- what holds of a fit fault, and of a value where n is the child, holds of the answer about n
@@ -94,26 +94,26 @@ module _ (s : PreparedView) where
   over n here = rw here at (roster_of-without n s.child)
 
   rules-poll : (n : ℕ) → is_child n s.child ≡ true → is_on_roster n roster ≡ true
-      → (m : ℕ) (x : Option ProcessEnd) → poll_of m ≡ Some x → Rules (poll n) (Ok x)
+      → (m : ℕ) (x : Option ProcessEnd) → poll_of m ≡ Some x → KeepsRules (poll n) (Ok x)
   rules-poll n here on m None said = (refl, on)
   rules-poll n here on m (Some end) said = (over n here, (on, end_fits m end (grind (arith, nat_tests))))
 
-  rules-signal : (n number : ℕ) → Rules (signal n number) (answer_about n nothing_of s)
-  rules-signal n number = about n nothing_of (Rules (signal n number)) (λ f h. (refl, h)) (λ here on m u said. (refl, on)) _ refl
+  rules-signal : (n number : ℕ) → KeepsRules (signal n number) (answer_about n nothing_of s)
+  rules-signal n number = about n nothing_of (KeepsRules (signal n number)) (λ f h. (refl, h)) (λ here on m u said. (refl, on)) _ refl
 
-  rules-tell : (handler : ℕ) (told : Fault) → Rules (tell handler told) (next_answer nothing_of s)
-  rules-tell handler told = next_fits nothing_of (Rules (tell handler told)) (λ f h. (refl, h)) (λ m u said. (refl, tt)) s
+  rules-tell : (handler : ℕ) (told : Fault) → KeepsRules (tell handler told) (next_answer nothing_of s)
+  rules-tell handler told = next_fits nothing_of (KeepsRules (tell handler told)) (λ f h. (refl, h)) (λ m u said. (refl, tt)) s
 
-  rules : (c : HostCall) → Rules c (answer s c)
+  rules : (c : HostCall) → KeepsRules c (answer s c)
   rules (spawn program options way time) = rules-spawn program options way time _ refl
-  rules (poll n) = about n poll_of (Rules (poll n)) (λ f h. (refl, h)) (rules-poll n) _ refl
-  rules (wait n) = about n end_of (Rules (wait n)) (λ f h. (refl, h)) (λ here on m end said. (over n here, (on, end_fits m end said))) _ refl
+  rules (poll n) = about n poll_of (KeepsRules (poll n)) (λ f h. (refl, h)) (rules-poll n) _ refl
+  rules (wait n) = about n end_of (KeepsRules (wait n)) (λ f h. (refl, h)) (λ here on m end said. (over n here, (on, end_fits m end said))) _ refl
   rules (kill n) = rules-signal n 9
   rules (signal n number) = rules-signal n number
   rules (cont n) = rules-signal n 18
   rules (let_go n) = (roster_of-without n s.child, tt)
   rules (hook number state previous) =
-      next_fits options_of (Rules (hook number state previous)) (λ f h. (refl, h)) (λ m options said. (refl, tt)) s
+      next_fits options_of (KeepsRules (hook number state previous)) (λ f h. (refl, h)) (λ m options said. (refl, tt)) s
   rules (routine number state previous) = rules-tell number (fault 0)
   rules (tell handler told) = rules-tell handler told
 

@@ -60,7 +60,8 @@ impl Children {
 
     // Adds a going child with the next number; none where there is no room or no number left.
     pub(crate) fn add(&mut self) -> Option<u32>
-        ensures answer { result ≡ (if has_room self.old.next (items self.old) then Some self.old.next else None) }
+        ensures answer { result ≡
+            (if has_room self.old.next (items self.old) then Some self.old.next else None) }
         ensures after { contents_of self.new ≡
             (if has_room self.old.next (items self.old)
             then (items self.old ++ child self.old.next Life.Going ∷ [], self.old.next + 1)
@@ -97,7 +98,8 @@ impl Children {
     // Gives a living child a life, and answers whether it was living; else nothing changes.
     pub(crate) fn put_living(&mut self, number: u32, life: Life) -> bool
         ensures answer { result ≡ is_living (life_of number (items self.old)) }
-        ensures after { contents_of self.new ≡ (with_living number life (items self.old), self.old.next) }
+        ensures after { contents_of self.new ≡
+            (with_living number life (items self.old), self.old.next) }
     {
         let is_living = matches!(self.life(number), Some(Life::Going | Life::Stopped));
         if is_living {
@@ -109,7 +111,8 @@ impl Children {
     // The life of a child; one that has ended is taken off, since its end is reported once.
     pub(crate) fn report(&mut self, number: u32) -> Option<Life>
         ensures life { result ≡ life_of number (items self.old) }
-        ensures after { contents_of self.new ≡ (after_report number result (items self.old), self.old.next) }
+        ensures after { contents_of self.new ≡
+            (after_report number result (items self.old), self.old.next) }
     {
         let life = self.life(number);
         if let Some(Life::Ended(_)) = life {

@@ -57,7 +57,8 @@ impl SimulatedHost {
     // A living child ends by itself, and true is answered; else nothing changes. Not counted as a call.
     pub fn exit(&mut self, child: u32, code: u8) -> bool
         ensures answer { result ≡ is_living (life_of child (view self.old).children) }
-        ensures after { view self.new ≡ make_happen child (Life.Ended (End.Exited code)) (view self.old) }
+        ensures after { view self.new ≡
+            make_happen child (Life.Ended (End.Exited code)) (view self.old) }
     {
         self.children
             .put_living(child, Life::Ended(End::Exited(code)))
