@@ -1,8 +1,8 @@
 -- What a signal does to a simulated child.
 use Rattle.std.specs.Prelude.{ℕ, ◌/◌, ◌%◌, ◌^◌, Bool, if◌then◌else◌, not, ◌&&◌, ◌||◌, ◌==◌, nat_le, Ok, Err, Result}
-use Rattle.hosts.specs.declared.children.End.TheVariants.{Signalled}
-use Rattle.hosts.specs.declared.children.Life.{Life}
-use Rattle.hosts.specs.declared.children.Life.TheVariants.{Going, Stopped, Ended}
+use Rattle.hosts.specs.declared.child.End.TheVariants.{Signalled}
+use Rattle.hosts.specs.declared.child.Life.{Life}
+use Rattle.hosts.specs.declared.child.Life.TheVariants.{Going, Stopped, Ended}
 use Rattle.hosts.specs.declared.signals.NoSignal.{NoSignal}
 use Rattle.hosts.specs.declared.signals.NoSignal.TheVariants.{Null, Unknown}
 
@@ -18,12 +18,12 @@ has_bit mask s = mask / 2 ^ s % 2 == 1
 abbrev pub is_ignored : ℕ → ℕ → Bool
 is_ignored mask s = has_bit mask s && not (s == 9 || s == 18 || s == 19)
 
--- a living child continues at 18 and stops at 19 to 22; 0, 17, 23 and 28 do nothing; any other signal ends it
+-- a living child continues at 18 and stops at 19 to 22; 17, 23 and 28 do nothing; any other signal ends it
 abbrev pub life_after : ℕ → Life → Life
 life_after s life =
     if s == 18 then Going
     else if nat_le 19 s && nat_le s 22 then Stopped
-    else if s == 0 || s == 17 || s == 23 || s == 28 then life
+    else if s == 17 || s == 23 || s == 28 then life
     else Ended (Signalled s)
 
 -- the life of a child that a signal was delivered to; an ended one takes no signal

@@ -1,18 +1,17 @@
 -- The simulated host: what each call is answered, and what the host holds after it.
-use Rattle.std.specs.Prelude.{◌≡◌, ℕ, ◌+◌, if◌then◌else◌, List, [], ◌∷◌, ◌++◌, Some, None, Ok, Err, Option, Result, nat_le, ⊤}
+use Rattle.std.specs.Prelude.{◌≡◌, ℕ, ◌+◌, if◌then◌else◌, ◌&&◌, List, [], ◌∷◌, ◌++◌, Some, None, Ok, Err, Option, Result, nat_le, ⊤}
 use Rattle.host.specs.Fault.{fault}
 use Rattle.host.specs.declared.fault.Fault.{Fault}
 use Rattle.host.specs.declared.command.SpawnOptions.{SpawnOptions}
 use Rattle.host.specs.declared.state.ProcessEnd.{ProcessEnd}
 use Rattle.host.specs.Calls.{HostCall, spawn, poll, wait, kill, signal, cont, let_go, hook, routine, tell, HostReply}
-use Rattle.host.specs.Books.{HostBook, next_count, spawns_after}
-use Rattle.hosts.specs.declared.children.Life.{Life}
-use Rattle.hosts.specs.declared.children.Life.TheVariants.{Going, Stopped, Ended}
-use Rattle.hosts.specs.declared.children.Child.{Child}
+use Rattle.host.specs.Books.{HostBook, IsEnd, next_count, spawns_after}
+use Rattle.hosts.specs.declared.child.Life.{Life}
+use Rattle.hosts.specs.declared.child.Life.TheVariants.{Going, Stopped, Ended}
+use Rattle.hosts.specs.declared.child.Child.{Child}
 use Rattle.hosts.specs.declared.simulated.SimulatedHost.{SimulatedHost}
-use Rattle.hosts.specs.Children.{child, numbers, life_of, children_without, with_life, with_living, after_report, has_room, process_end}
+use Rattle.hosts.specs.Children.{child, items, life_of, children_without, with_life, with_living, after_report, has_room, process_end, roster_of}
 use Rattle.hosts.specs.Signals.{deliver}
-use Rattle.hosts.specs.Roster.{items}
 
 -- the children in the order of their spawns, the number of the next one, the mask of the signals that children ignore, the
 -- command's options, and how many calls were served and how many of them were spawns, modulo 2^64
@@ -26,7 +25,7 @@ pub record HostView : Type 0 where
 
 -- what a simulated host holds
 abbrev pub view : SimulatedHost → HostView
-view h = record { children = items h.roster; next = h.roster.next; mask = h.mask; options = h.options; served = h.served.0; spawns = h.spawns.0 }
+view h = record { children = items h.children; next = h.children.next; mask = h.mask; options = h.options; served = h.served.0; spawns = h.spawns.0 }
 
 -- a new one has no children, and its first will be 100
 abbrev pub fresh_host : ℕ → SpawnOptions → HostView
@@ -34,7 +33,7 @@ fresh_host mask options = record { children = []; next = 100; mask = mask; optio
 
 -- its book: every child, ended or not, is on the roster
 abbrev pub book_of : HostView → HostBook
-book_of s = record { roster = numbers s.children; served = s.served; spawns = s.spawns }
+book_of s = record { roster = roster_of s.children; served = s.served; spawns = s.spawns }
 
 -- ANSWERS, by the life of the child that a call names: None where it is off the roster, and then the fault is 10
 
@@ -72,10 +71,10 @@ answer s (tell handler code) = Ok tt
 
 -- WHAT A CALL LEAVES
 
--- the children once a signal was sent to the child n, which has this life
+-- the children once a signal was sent to the child n, which has this life; 0 and a number over 31 are no signal's
 abbrev pub send_signal : ℕ → ℕ → ℕ → Option Life → List Child → List Child
 send_signal mask s n None cs = cs
-send_signal mask s n (Some life) cs = if nat_le s 31 then with_life n (deliver mask s life) cs else cs
+send_signal mask s n (Some life) cs = if nat_le 1 s && nat_le s 31 then with_life n (deliver mask s life) cs else cs
 
 -- the children after each call
 abbrev pub children_after : HostView → HostCall → List Child
@@ -101,11 +100,17 @@ count_call s = record s { served = next_count s.served }
 
 -- every call is served, and a spawn counts as one, also if it faults
 abbrev pub state_after : HostView → HostCall → HostView
-state_after s c = record { children = children_after s c; next = next_after s c; mask = s.mask; options = s.options; served = next_count s.served; spawns = spawns_after s.spawns c }
+state_after s c = record s { children = children_after s c; next = next_after s c; served = next_count s.served; spawns = spawns_after s.spawns c }
+
+-- an end that is answered is one that a process may have
+abbrev pub AnswersEnd : (c : HostCall) → HostReply c → Type 0
+AnswersEnd (poll n) (Ok (Some end)) = IsEnd end
+AnswersEnd (wait n) (Ok end) = IsEnd end
+AnswersEnd c a = ⊤
 
 -- a call of a host was answered so, and left the host so
 abbrev pub Did : SimulatedHost → (c : HostCall) → HostReply c → SimulatedHost → Type 0
-Did h c a k = (a ≡ answer (view h) c) × (view k ≡ state_after (view h) c)
+Did h c a k = (a ≡ answer (view h) c) × (view k ≡ state_after (view h) c) × AnswersEnd c a
 
 -- WHAT A REHEARSAL MAKES HAPPEN
 

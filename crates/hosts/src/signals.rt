@@ -2,7 +2,7 @@
 ghost use Rattle.std.specs.Prelude.{◌≡◌, ◌≤◌};
 ghost use Rattle.hosts.specs.Signals.{has_bit, deliver, is_ignored, signal_of};
 
-use crate::children::{End, Life};
+use crate::child::{End, Life};
 use std::marker::Model;
 
 pub const KILL: u8 = 9;
@@ -69,17 +69,6 @@ impl Signal {
         ensures high { result ≤ 31 }
     {
         self.number
-    }
-
-    // The same signal, of which a proof then knows the range.
-    pub(crate) fn known(self) -> Signal
-        ensures is { result ≡ self }
-        ensures low { 1 ≤ result }
-        ensures high { result ≤ 31 }
-    {
-        Signal {
-            number: self.number,
-        }
     }
 
     fn has_bit(self, mask: u32) -> bool

@@ -4,9 +4,9 @@ use Rattle.host.specs.declared.journal.Record.{Record}
 use Rattle.host.specs.declared.command.Command.{Command}
 use Rattle.host.specs.Interaction.{Interaction}
 use Rattle.host.specs.Journal.{journal}
-use Rattle.hosts.specs.declared.children.Life.{Life}
-use Rattle.hosts.specs.declared.children.Life.TheVariants.{Stopped, Ended}
-use Rattle.hosts.specs.declared.children.End.TheVariants.{Exited}
+use Rattle.hosts.specs.declared.child.Life.{Life}
+use Rattle.hosts.specs.declared.child.Life.TheVariants.{Stopped, Ended}
+use Rattle.hosts.specs.declared.child.End.TheVariants.{Exited}
 use Rattle.hosts.specs.Children.{is_living, life_of}
 use Rattle.hosts.specs.Simulated as Simulated
 use Rattle.foreground.specs.Absent as Absent

@@ -1,8 +1,8 @@
 // A script's calls, made on one job.
 ghost use Rattle.std.specs.Prelude.{◌≡◌, if◌then◌else◌, Ok, Err, IfOk, string_bytes};
 ghost use Rattle.std.specs.Result.{result_map_both};
-ghost use Rattle.hosts.specs.declared.children.End.TheVariants.{Exited};
-ghost use Rattle.hosts.specs.declared.children.Life.TheVariants as Life;
+ghost use Rattle.hosts.specs.declared.child.End.TheVariants.{Exited};
+ghost use Rattle.hosts.specs.declared.child.Life.TheVariants as Life;
 ghost use Rattle.supervisor.specs.declared.errors.Refusal.TheVariants.{Unknown};
 ghost use Rattle.supervisor.specs.Job as Spec;
 ghost use Rattle.rehearsal.specs.Plays.{beginning, make_job, new_state, play, tell_event};
