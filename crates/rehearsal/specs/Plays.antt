@@ -12,12 +12,13 @@ use Rattle.hosts.specs.Simulated as Simulated
 use Rattle.foreground.specs.Absent as Absent
 use Rattle.supervisor.specs.declared.errors.Refusal.{Refusal}
 use Rattle.supervisor.specs.declared.errors.Refusal.TheVariants.{Unknown}
-use Rattle.supervisor.specs.Answers.{progress_number}
 use Rattle.supervisor.specs.Job as Job
 use Rattle.supervisor.specs.Job.{JobView, StepEnd, may_step, tree_of}
 use Rattle.drive.specs.declared.calls.Call.{Call}
 use Rattle.drive.specs.declared.calls.Call as Calls
-use Rattle.drive.specs.Calls.{known_ticket, look_value, pause_value, collect_value}
+use Rattle.drive.specs.declared.calls.Value.{Value}
+use Rattle.drive.specs.declared.calls.Value.TheVariants.{Progress, Nothing}
+use Rattle.drive.specs.Calls.{known_ticket, send_value, look_value, pause_value, collect_value}
 use Rattle.rehearsal.specs.declared.line.Line.{Line}
 use Rattle.rehearsal.specs.declared.line.Line as Lines
 use Rattle.rehearsal.specs.Trees.{Outside, run, Run}
@@ -44,17 +45,17 @@ beginning = new_state 0 (Job.fresh_job plain_command)
 
 -- what it answers, the records that it writes, and the state that it leaves
 pub record PlayEnd : Type 0 where
-  pub answer : Result ℕ Refusal
+  pub answer : Result Value Refusal
   pub records : List Record
   pub state : State
 
 -- an answer of the job that asks nothing outside
-abbrev pub play_quietly : State → JobView × Result ℕ Refusal → PlayEnd
+abbrev pub play_quietly : State → JobView × Result Value Refusal → PlayEnd
 play_quietly s x = record { answer = x.1; records = []; state = record s { job = x.0 } }
 
 -- a step whose tree was run
 abbrev pub play_run : Run StepEnd → PlayEnd
-play_run r = record { answer = Ok (progress_number r.value.progress); records = journal r.trace; state = record { job = r.value.view; outside = r.outside } }
+play_run r = record { answer = Ok (Progress r.value.progress); records = journal r.trace; state = record { job = r.value.view; outside = r.outside } }
 
 -- a step of this tree, which may be made or is refused
 abbrev pub play_step : State → Interaction StepEnd → Result ⊤ Refusal → PlayEnd
@@ -62,27 +63,27 @@ play_step s tree (Ok u) = play_run (run tree s.outside)
 play_step s tree (Err refusal) = play_quietly s (s.job, Err refusal)
 
 -- a call on the job; the sheet of a step has 8 places
-abbrev pub call : State → Call → PlayEnd
-call s (Calls.TheVariants.Send send) = play_quietly s (Job.send send s.job)
-call s (Calls.TheVariants.Step kind time) = play_step s (tree_of kind s.outside.terminal.own time s.job) (may_step time 8 s.job)
-call s (Calls.TheVariants.Pause signal) = play_quietly s (pause_value signal s.job)
-call s (Calls.TheVariants.Look ticket) = play_quietly s (s.job, look_value (known_ticket ticket) s.job)
-call s (Calls.TheVariants.Collect ticket) = play_quietly s (collect_value (known_ticket ticket) s.job)
+abbrev pub play_call : State → Call → PlayEnd
+play_call s (Calls.TheVariants.Send send) = play_quietly s (send_value send s.job)
+play_call s (Calls.TheVariants.Step kind time) = play_step s (tree_of kind s.outside.terminal.own time s.job) (may_step time 8 s.job)
+play_call s (Calls.TheVariants.Pause signal) = play_quietly s (pause_value signal s.job)
+play_call s (Calls.TheVariants.Look ticket) = play_quietly s (s.job, look_value (known_ticket ticket) s.job)
+play_call s (Calls.TheVariants.Collect ticket) = play_quietly s (collect_value (known_ticket ticket) s.job)
 
 -- m: a job that is made takes the place of all that was; a refused one leaves it
 abbrev pub make_job : State → ℕ → Result JobView Refusal → PlayEnd
-make_job s mask (Ok job) = record { answer = Ok 0; records = []; state = new_state mask job }
+make_job s mask (Ok job) = record { answer = Ok Nothing; records = []; state = new_state mask job }
 make_job s mask (Err refusal) = play_quietly s (s.job, Err refusal)
 
 -- w: a living child has another life; no child has a number of more than 32 bits
 abbrev pub tell_event : State → ℕ → Life → PlayEnd
 tell_event s child life =
     if nat_lt child (2 ^ 32) && is_living (life_of child s.outside.host.children)
-    then record { answer = Ok 0; records = []; state = record s { outside = record s.outside { host = Simulated.make_happen child life s.outside.host } } }
+    then record { answer = Ok Nothing; records = []; state = record s { outside = record s.outside { host = Simulated.make_happen child life s.outside.host } } }
     else play_quietly s (s.job, Err Unknown)
 
 abbrev pub play : State → Line → PlayEnd
 play s (Lines.TheVariants.Make options mask) = make_job s mask (Job.make 1 options)
-play s (Lines.TheVariants.Call c) = call s c
+play s (Lines.TheVariants.Call c) = play_call s c
 play s (Lines.TheVariants.Exit child code) = tell_event s child (Ended (Exited code))
 play s (Lines.TheVariants.Stop child) = tell_event s child Stopped

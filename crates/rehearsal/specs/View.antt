@@ -1,10 +1,11 @@
 -- What a rehearsal holds and has done, as the definitions speak of it.
-use Rattle.std.specs.Prelude.{ℕ, [], Result, take}
+use Rattle.std.specs.Prelude.{[], Result, take}
 use Rattle.hosts.specs.Simulated as Simulated
 use Rattle.foreground.specs.Absent as Absent
 use Rattle.supervisor.specs.declared.errors.Refusal.{Refusal}
 use Rattle.supervisor.specs.Steps.{job_view}
 use Rattle.drive.specs.declared.calls.Done.{Done}
+use Rattle.drive.specs.declared.calls.Value.{Value}
 use Rattle.rehearsal.specs.declared.run.Rehearsal.{Rehearsal}
 use Rattle.rehearsal.specs.Plays.{State, PlayEnd}
 
@@ -17,5 +18,5 @@ abbrev pub play_end : Done → Rehearsal → PlayEnd
 play_end done r = record { answer = done.answer; records = take done.records r.sheet; state = state_of r }
 
 -- what was answered without a record
-abbrev pub answer_end : Result ℕ Refusal → Rehearsal → PlayEnd
+abbrev pub answer_end : Result Value Refusal → Rehearsal → PlayEnd
 answer_end result r = record { answer = result; records = []; state = state_of r }
