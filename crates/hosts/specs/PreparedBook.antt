@@ -10,9 +10,8 @@ use Rattle.host.specs.Fault.{fault}
 use Rattle.host.specs.declared.fault.Fault.{Fault}
 use Rattle.host.specs.declared.command.SpawnOptions.{SpawnOptions}
 use Rattle.host.specs.declared.state.ProcessEnd.{ProcessEnd}
-use Rattle.host.specs.declared.state.ProcessEnd.TheVariants.{Exited, Signalled, Continued}
 use Rattle.host.specs.Calls.{HostCall, spawn, poll, wait, kill, signal, cont, let_go, hook, routine, tell, HostReply}
-use Rattle.host.specs.Books.{HostFits, HostKeeps, IsEnd, IsFault, MayFault, Roster, is_on_roster, roster_after, strike}
+use Rattle.host.specs.Books.{HostFits, HostKeeps, IsEnd, IsFault, MayFault, Roster, is_on_roster, no_child, roster_after, strike}
 use Rattle.host.specs.Command.{options_of}
 use Rattle.hosts.specs.Numbers.{child_of, end_of, nothing_of, poll_of}
 use Rattle.hosts.specs.Prepared.{PreparedView, answer, answer_about, book_of, child_after, is_child, next_answer, read, roster_of, state_after}
@@ -38,9 +37,7 @@ roster_of-without n (Some m) = same_set nat_cmp_total nat_cmp-IsAntisymmetric _ 
 -- WHAT IS READ FROM A NUMBER FITS
 
 end_fits : (n : ℕ) (end : ProcessEnd) → end_of n ≡ Some end → IsEnd end
-end_fits n (Exited code) e = grind (arith, nat_tests)
-end_fits n (Signalled s) e = grind (arith, nat_tests)
-end_fits n Continued e = grind (arith, nat_tests)
+end_fits n end e = grind (arith, nat_tests)
 
 -- WHAT THE SHEET ANSWERS FITS
 
@@ -82,24 +79,20 @@ module _ (s : PreparedView) where
 
   -- what holds of a fit fault, and of a value where n is the child, holds of the answer about n
   about : {A : Type 0} (n : ℕ) (value_of : ℕ → Option A) (P : Result A Fault → Type 0) → ((f : Fault) → MayFault n roster f → P (Err f))
-      → (is_child n s.child ≡ true → is_on_roster n roster ≡ true → (m : ℕ) (x : A) → value_of m ≡ Some x → P (Ok x))
+      → (is_on_roster n roster ≡ true → no_child ≡ strike n roster → (m : ℕ) (x : A) → value_of m ≡ Some x → P (Ok x))
       → (b : Bool) → is_child n s.child ≡ b → P (if b then next_answer value_of s else Err (fault 10))
   about n value_of P faults values true e =
       let on : is_on_roster n roster ≡ true = is_on_roster-roster_of n s.child ∙ e in
-      next_fits value_of P (λ f h. faults f (h, λ off. cc)) (values e on) s
+      next_fits value_of P (λ f h. faults f (h, λ off. cc)) (values on (rw e at (roster_of-without n s.child))) s
   about n value_of P faults values false e = faults (fault 10) (grind arith)
 
-  -- a call about the child n, once it is answered an end
-  over : (n : ℕ) → is_child n s.child ≡ true → roster_of None ≡ strike n roster
-  over n here = rw here at (roster_of-without n s.child)
-
-  rules-poll : (n : ℕ) → is_child n s.child ≡ true → is_on_roster n roster ≡ true
+  rules-poll : (n : ℕ) → is_on_roster n roster ≡ true → no_child ≡ strike n roster
       → (m : ℕ) (x : Option ProcessEnd) → poll_of m ≡ Some x → KeepsRules (poll n) (Ok x)
-  rules-poll n here on m None said = (refl, on)
-  rules-poll n here on m (Some end) said = (over n here, (on, end_fits m end (grind (arith, nat_tests))))
+  rules-poll n on over m None said = (refl, on)
+  rules-poll n on over m (Some end) said = (over, (on, end_fits m end (grind (arith, nat_tests))))
 
   rules-signal : (n number : ℕ) → KeepsRules (signal n number) (answer_about n nothing_of s)
-  rules-signal n number = about n nothing_of (KeepsRules (signal n number)) (λ f h. (refl, h)) (λ here on m u said. (refl, on)) _ refl
+  rules-signal n number = about n nothing_of (KeepsRules (signal n number)) (λ f h. (refl, h)) (λ on over m u said. (refl, on)) _ refl
 
   rules-tell : (handler : ℕ) (told : Fault) → KeepsRules (tell handler told) (next_answer nothing_of s)
   rules-tell handler told = next_fits nothing_of (KeepsRules (tell handler told)) (λ f h. (refl, h)) (λ m u said. (refl, tt)) s
@@ -107,7 +100,7 @@ module _ (s : PreparedView) where
   rules : (c : HostCall) → KeepsRules c (answer s c)
   rules (spawn program options way time) = rules-spawn program options way time _ refl
   rules (poll n) = about n poll_of (KeepsRules (poll n)) (λ f h. (refl, h)) (rules-poll n) _ refl
-  rules (wait n) = about n end_of (KeepsRules (wait n)) (λ f h. (refl, h)) (λ here on m end said. (over n here, (on, end_fits m end said))) _ refl
+  rules (wait n) = about n end_of (KeepsRules (wait n)) (λ f h. (refl, h)) (λ on over m end said. (over, (on, end_fits m end said))) _ refl
   rules (kill n) = rules-signal n 9
   rules (signal n number) = rules-signal n number
   rules (cont n) = rules-signal n 18
