@@ -1,5 +1,5 @@
 -- Each call of a run is fair: tickets are given for what is accepted, orders are counted as they are taken, and nothing is lost.
-use Rattle.std.proofs.Common.{◌≡◌, ℕ, Bool, true, false, is_some, Some, None, Ok, Err, Result, [], length, refl, sym, ap, subst, arith}
+use Rattle.std.proofs.Common.{◌≡◌, ℕ, Bool, true, false, Some, None, Ok, Err, Result, length, refl, sym, ap, subst, arith}
 use Rattle.std.specs.Prelude.{◌==◌, not, if◌then◌else◌, ⊤, OnErr}
 use Rattle.std.specs.Int.{from_bool}
 use Rattle.std.specs.List.{count_by}
@@ -7,7 +7,6 @@ use Rattle.std.proofs.lemmas.Bool.Decides.{nat_tests}
 use Rattle.std.proofs.lemmas.Grind.{common_steps}
 use Rattle.host.specs.declared.process.Host as Host
 use Rattle.host.specs.declared.terminal.Terminal as Terminal
-use Rattle.host.specs.Interaction.{done, IsAnswered}
 use Rattle.tickets.specs.Tickets.{mark_of}
 use Rattle.task.specs.Messages.{orders}
 use Rattle.task.proofs.Books.{Books}
@@ -23,7 +22,6 @@ use Rattle.supervisor.specs.Mailbox as Mail
 use Rattle.supervisor.specs.Mailbox.{TakeResult, take, may_send}
 use Rattle.supervisor.specs.Sends.{priority_of, controls_of}
 use Rattle.supervisor.specs.Steps.{Moment, moment, job_view, step_end, StepsOrRefuses}
-use Rattle.supervisor.specs.Timers.{memory}
 use Rattle.drive.specs.declared.calls.Call.{Call}
 use Rattle.drive.specs.declared.calls.Call.TheVariants as Calls
 use Rattle.drive.specs.declared.calls.Done.{Done}

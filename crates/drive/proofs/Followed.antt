@@ -26,12 +26,13 @@ use Rattle.drive.specs.Original as Original
 use Rattle.drive.specs.Original.{Amendments, all_amendments, no_amendments}
 use Rattle.drive.specs.Turns.{Turn, Linked}
 use Rattle.drive.proofs.Laws.{linked_so, linked_first}
+use Rattle.drive.proofs.Flagged.{agree}
 use Rattle.drive.proofs.Originals.{branch_comes}
 use Rattle.drive.proofs.Sent.{send_agrees, pause_agrees, collect_agrees}
 
 -- a fresh job, and a fresh original
 fresh_agrees : (c : Command) → Agrees (Job.fresh_job c) (Original.fresh_original c)
-fresh_agrees c = record { command = refl; state = refl; previous = refl; handler = refl; hook = refl; way = refl; paused = refl; pauses = refl; watch = refl; grant = refl; normal = refl; high = refl; urgent = refl; timer = refl; memory = refl; ending = refl; issued = refl; closed = refl; later = λ s l. refl; raised = λ e s l k. absurd (omega (arith, l, k)) }
+fresh_agrees c = agree (record { later = λ s l. refl; same = λ e s l k. absurd (omega (arith, l, k)) })
 
 module _ {H T : Type 0} (by_host : Host.Ghosts H) (by_terminal : Terminal.Ghosts T) where
   -- the original does its part, and agrees afterwards

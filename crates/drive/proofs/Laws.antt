@@ -1,5 +1,5 @@
 -- The laws of a run, from those of its calls.
-use Rattle.std.proofs.Common.{◌≡◌, ℕ, ◌+◌, ◌≤◌, Bool, true, false, is_ok, is_some, Ok, Err, Result, List, [], ◌∷◌, length, sym, Option, ap, ◌∙◌, arith}
+use Rattle.std.proofs.Common.{◌≡◌, ℕ, ◌+◌, ◌≤◌, true, is_ok, is_some, List, [], ◌∷◌, sym, Option, ap, ◌∙◌, arith}
 use Rattle.std.proofs.lemmas.Grind.{common_steps}
 use Rattle.host.specs.declared.process.Host as Host
 use Rattle.host.specs.declared.terminal.Terminal as Terminal
@@ -70,7 +70,6 @@ module _ {H T : Type 0} (by_host : Host.Ghosts H) (by_terminal : Terminal.Ghosts
   -- the step that takes the message of a timer leaves no start owed
   none_owed : (t : Timer) (time : ℕ) (a : Moment H T) (d : Done) (b : Moment H T) → Pends t (job_at a) → t.deadline ≤ time → is_ok d.answer ≡ true → Makes by_host by_terminal (Step Control time) a d b → owed_starts (job_at b).mailbox.timer ≡ 0
   none_owed t time a d b p l k made = ap owed_starts ((control_taken by_host by_terminal time a d b k made).due t p l).0
-
 
   pub restarts : (cs : List Call) (a : Moment H T) (ts : List (Turn (Moment H T))) (b : Moment H T) → Linked (Makes by_host by_terminal) cs a ts b → KeepsRestartLaws cs a ts
   restarts cs a ts b h =

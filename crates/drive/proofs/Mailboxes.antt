@@ -91,7 +91,7 @@ next_orders graced q c q' e = by q.urgent q.high q.normal graced refl refl refl 
     by [] [] ns g a b d e = absurd (grind (arith, common_steps))
 
 -- a message that is taken leaves the tickets, and the orders but for its own
-take_moves : (time : ℕ) (m : MailboxView) (r : Received) (n : MailboxView) → take time m ≡ Some (r, n) → (n.tickets ≡ m.tickets) × (waiting_orders n.queues + from_bool (orders_start r) ≡ waiting_orders m.queues)
+pub take_moves : (time : ℕ) (m : MailboxView) (r : Received) (n : MailboxView) → take time m ≡ Some (r, n) → (n.tickets ≡ m.tickets) × (waiting_orders n.queues + from_bool (orders_start r) ≡ waiting_orders m.queues)
 take_moves time m r n e = grind (arith, common_steps, nat_tests, next_orders)
 
 -- and is carried out
