@@ -28,7 +28,7 @@ use Rattle.drive.specs.Follows.{message_of, timer_of, is_raised, Agrees}
 use Rattle.drive.specs.Original as Original
 use Rattle.drive.specs.Original.{Amendments}
 use Rattle.drive.proofs.Arms as Arms
-use Rattle.drive.proofs.Arms.{Flags, with_task}
+use Rattle.drive.proofs.Arms.{with_task}
 
 -- RAISED
 
@@ -81,23 +81,17 @@ timer_made m t e h s l = none_weighs s (t.ticket ∷ []) (grind (arith, none_lat
 
 -- THE SAME STATE
 
--- the flags of a mailbox, those that are raised, and whether the job is closed
-abbrev pub flags_of : MailboxView → List ℕ → Bool → Flags
-flags_of m raised gone = record {
-  normal = map message_of m.queues.normal;
-  high = map message_of m.queues.high;
-  urgent = map message_of m.queues.urgent;
-  stop_timer = option_map timer_of m.timer;
-  on_end = m.ending;
-  on_end_restart = memory m.timer;
-  flags = m.tickets.issued;
-  raised = raised;
-  gone = gone;
+-- the original with a task, a mailbox, the raised flags, and whether the job is closed
+abbrev pub state_of : TaskView → MailboxView → List ℕ → Bool → Original.Original
+state_of t m raised gone = record {
+  command = t.command; pause_rx = t.foreground.pauses; error_handler = t.settings.handler; spawn_hook = t.settings.hook; spawner = t.settings.way;
+  command_state = t.state; previous_run = t.previous; foreground_grant = t.foreground.grant; pause_watch = t.foreground.watch; paused = t.foreground.paused;
+  normal = map message_of m.queues.normal; high = map message_of m.queues.high; urgent = map message_of m.queues.urgent;
+  stop_timer = option_map timer_of m.timer; on_end_restart = memory m.timer; on_end = m.ending; flags = m.tickets.issued; raised = raised; gone = gone;
 }
 
--- the original in the state of a job
 abbrev pub original_of : JobView → List ℕ → Original.Original
-original_of v raised = with_task v.task (flags_of v.mailbox raised v.closed)
+original_of v raised = state_of v.task v.mailbox raised v.closed
 
 pub same_original : {v : JobView} {o : Original.Original} → Agrees v o → o ≡ original_of v o.raised
 same_original a =
@@ -134,20 +128,20 @@ agree h = record {
 -- OUTCOMES
 
 -- a control that has had an outcome
-pub settle_agrees : (now : ℕ) (r : Received) (m : MailboxView) (x : TaskView × Outcome) {raised : List ℕ} → IsInOrder (r.message.ticket ∷ []) m → (is_graced x.1 ≡ true → m.timer ≡ None) → MatchesTickets false m.tickets raised → Agrees (control_end now r m x).view (with_task x.0 (Arms.settled now r.message.ticket x.1 (flags_of m raised false)))
-settle_agrees now r m (t, Settled) order free h = agree (each_matches (r.message.ticket ∷ []) m.tickets order.once (hand_made order) h)
-settle_agrees now r m (t, Ended) order free h =
+pub settle_agrees : (now : ℕ) (before : TaskView) (r : Received) (m : MailboxView) (x : TaskView × Outcome) {raised : List ℕ} → IsInOrder (r.message.ticket ∷ []) m → (is_graced x.1 ≡ true → m.timer ≡ None) → MatchesTickets false m.tickets raised → Agrees (control_end now r m x).view (with_task x.0 (Arms.settled now r.message.ticket x.1 (state_of before m raised false)))
+settle_agrees now before r m (t, Settled) order free h = agree (each_matches (r.message.ticket ∷ []) m.tickets order.once (hand_made order) h)
+settle_agrees now before r m (t, Ended) order free h =
     let ended = each_matches m.ending m.tickets order.once (ending_made order) h in
     agree (each_matches (r.message.ticket ∷ []) (record m.tickets { table = raise_each m.ending m.tickets.table }) (once_each m.ending m.tickets.table order.once) (hand_made order) ended)
-settle_agrees now r m (t, Graced grace Stop) order free h = rw (free refl) (agree h)
-settle_agrees now r m (t, Graced grace Restart) order free h = agree h
-settle_agrees now r m (t, Joined) order free h = agree h
-settle_agrees now r m (t, Closes) order free h =
+settle_agrees now before r m (t, Graced grace Stop) order free h = rw (free refl) (agree h)
+settle_agrees now before r m (t, Graced grace Restart) order free h = agree h
+settle_agrees now before r m (t, Joined) order free h = agree h
+settle_agrees now before r m (t, Closes) order free h =
     let closed = each_matches (r.message.ticket ∷ []) m.tickets order.once (hand_made order) h in
     agree (record { later = closed.later; same = λ _. closed.same refl })
 
 -- a poll of the child
-pub poll_agrees : (now : ℕ) (v : JobView) (x : TaskView × PollOutcome) {raised : List ℕ} → IsInOrder [] v.mailbox → MatchesTickets v.closed v.mailbox.tickets raised → Agrees (poll_end now v x).view (with_task x.0 (Arms.seen x.1 (flags_of v.mailbox raised v.closed)))
+pub poll_agrees : (now : ℕ) (v : JobView) (x : TaskView × PollOutcome) {raised : List ℕ} → IsInOrder [] v.mailbox → MatchesTickets v.closed v.mailbox.tickets raised → Agrees (poll_end now v x).view (with_task x.0 (Arms.seen x.1 (original_of v raised)))
 poll_agrees now v x {raised} order h = by v.mailbox.timer x.1 order
   where
     -- the timer's ticket, and those of the ending list
@@ -157,13 +151,13 @@ poll_agrees now v x {raised} order h = by v.mailbox.timer x.1 order
         let one = each_matches (t.ticket ∷ []) m.tickets order.once (timer_made m t refl order) h in
         each_matches m.ending (record m.tickets { table = raise t.ticket m.tickets.table }) (once_each (t.ticket ∷ []) m.tickets.table order.once) (ending_made order) one
 
-    by : (k : Option Timer) (o : PollOutcome) → IsInOrder [] (with_timer k v.mailbox) → Agrees (poll_end now (record v { mailbox = with_timer k v.mailbox }) (x.0, o)).view (with_task x.0 (Arms.seen o (flags_of (with_timer k v.mailbox) raised v.closed)))
+    by : (k : Option Timer) (o : PollOutcome) → IsInOrder [] (with_timer k v.mailbox) → Agrees (poll_end now (record v { mailbox = with_timer k v.mailbox }) (x.0, o)).view (with_task x.0 (Arms.seen o (state_of v.task (with_timer k v.mailbox) raised v.closed)))
     by None Over order = agree (each_matches v.mailbox.ending v.mailbox.tickets order.once (ending_made order) h)
     by None Renewed order = agree (each_matches v.mailbox.ending v.mailbox.tickets order.once (ending_made order) h)
     by (Some t) Over order = agree (ended t order)
     by (Some t) Renewed order = again t.end order
       where
-        again : (e : GraceEnd) → IsInOrder [] (with_timer (Some (record t { end = e })) v.mailbox) → Agrees (poll_end now (record v { mailbox = with_timer (Some (record t { end = e })) v.mailbox }) (x.0, Renewed)).view (with_task x.0 (Arms.seen Renewed (flags_of (with_timer (Some (record t { end = e })) v.mailbox) raised v.closed)))
+        again : (e : GraceEnd) → IsInOrder [] (with_timer (Some (record t { end = e })) v.mailbox) → Agrees (poll_end now (record v { mailbox = with_timer (Some (record t { end = e })) v.mailbox }) (x.0, Renewed)).view (with_task x.0 (Arms.seen Renewed (state_of v.task (with_timer (Some (record t { end = e })) v.mailbox) raised v.closed)))
         again Stop order = agree (ended (record t { end = Stop }) order)
         again Restart order =
             let u = record t { end = Restart } in
@@ -181,10 +175,10 @@ Forgets am now m = (t : Timer) → m.timer ≡ Some t → t.deadline ≤ now →
 module _ (t : TaskView) (m : MailboxView) (raised : List ℕ) (gone : Bool) where
   -- what is taken from the mailbox, as the original receives it
   abbrev pub as_received : TakeResult → Original.RecvResult
-  as_received k = option_map (λ x. (message_of x.0.message, with_task t (flags_of x.1 raised gone))) k
+  as_received k = option_map (λ x. (message_of x.0.message, state_of t x.1 raised gone)) k
 
   abbrev original : Original.Original
-  original = with_task t (flags_of m raised gone)
+  original = state_of t m raised gone
 
   abbrev next_received : NextResult → Original.RecvResult
   next_received k = as_received (option_map (λ x. (message_from x.0 Sources.Queue, with_queues x.1 m)) k)

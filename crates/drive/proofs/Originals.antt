@@ -28,9 +28,9 @@ use Rattle.drive.specs.Original as Original
 use Rattle.drive.specs.Original.{Amendments}
 use Rattle.drive.specs.Follows.{heard_calls, Follows, Agrees, is_launch, IsApart}
 use Rattle.drive.proofs.Likeness.{Like, Spoken, like_follows}
-use Rattle.drive.proofs.Arms.{Flags, with_task, Settles, Seen, Paused, AtOnce, control_like, poll_like, pause_like}
+use Rattle.drive.proofs.Arms.{with_task, Settles, Seen, Paused, AtOnce, control_like, poll_like, pause_like}
 use Rattle.drive.proofs.Mailboxes.{take_moves}
-use Rattle.drive.proofs.Flagged.{MatchesTickets, flags_of, original_of, same_original, tickets_match, agree, settle_agrees, poll_agrees, as_received, recv-received}
+use Rattle.drive.proofs.Flagged.{MatchesTickets, state_of, original_of, same_original, tickets_match, agree, settle_agrees, poll_agrees, as_received, recv-received}
 
 -- ONE STEP
 
@@ -65,28 +65,28 @@ module _ {W : Type 0} (did : W → (c : Call) → Reply c → W → Type 0) (am 
   abbrev Drops : Type 0
   Drops = (if am.drops then [] else v.task.foreground.pauses) ≡ []
 
-  control_comes : (r : Message.Received) (n : MailboxView) → Mail.take now v.mailbox ≡ Some (r, n) → (raised : List ℕ) → MatchesTickets v.closed v.mailbox.tickets raised → (w w' : W) (p : List Event) (s : StepEnd) → IsApart am Kinds.Control now v (journal p) → Traces did (carry_out (Some (r, n)) now v) w p s w' → Comes (Original.arm am r.message.control now r.message.ticket (with_task v.task (flags_of n raised v.closed))) p s
-  control_comes r n e raised h w w' p s apart run = rw free (end_comes (Speaks Drops) (Settles now r.message.ticket f) (Tree.control c now v.task) (Original.arm am c now r.message.ticket (with_task v.task f)) (control_end now r n) w w' p s like (spoken Drops p apart.waiting) agrees run)
+  control_comes : (r : Message.Received) (n : MailboxView) → Mail.take now v.mailbox ≡ Some (r, n) → (raised : List ℕ) → MatchesTickets v.closed v.mailbox.tickets raised → (w w' : W) (p : List Event) (s : StepEnd) → IsApart am Kinds.Control now v (journal p) → Traces did (carry_out (Some (r, n)) now v) w p s w' → Comes (Original.arm am r.message.control now r.message.ticket (state_of v.task n raised v.closed)) p s
+  control_comes r n e raised h w w' p s apart run = rw free (end_comes (Speaks Drops) (Settles now r.message.ticket f) (Tree.control c now v.task) (Original.arm am c now r.message.ticket f) (control_end now r n) w w' p s like (spoken Drops p apart.waiting) agrees run)
     where
       c : Control
       c = r.message.control
 
-      f : Flags
-      f = flags_of n raised false
+      f : Original.Original
+      f = state_of v.task n raised false
 
       at_once : (c : Control) (state : CommandState) → (c ≡ NextEnding → state ≡ Pending → am.at_once ≡ true) → AtOnce am c state
       at_once NextEnding Pending k = k refl refl
       at_once c state k = tt
 
-      like : Like (Speaks Drops) (Settles now r.message.ticket (flags_of n raised false)) (Tree.control r.message.control now v.task) (Original.arm am r.message.control now r.message.ticket (with_task v.task (flags_of n raised false)))
-      like = control_like am v.task.foreground.pauses (Speaks Drops) (λ program options way time child h. h refl) now r.message.ticket r.message.control v.task (flags_of n raised false) (at_once r.message.control v.task.state (λ i j. apart.pending refl r n e i j)) refl
+      like : Like (Speaks Drops) (Settles now r.message.ticket (state_of v.task n raised false)) (Tree.control r.message.control now v.task) (Original.arm am r.message.control now r.message.ticket (state_of v.task n raised false))
+      like = control_like am v.task.foreground.pauses (Speaks Drops) (λ _ _ _ _ _ h. h refl) now r.message.ticket r.message.control v.task (state_of v.task n raised false) (at_once r.message.control v.task.state (λ i j. apart.pending refl r n e i j)) refl
 
-      agrees : (x : TaskView × Outcome) → Traces did (Tree.control r.message.control now v.task) w p x w' → (o : Original.Original) → Settles now r.message.ticket (flags_of n raised false) x o → Agrees (control_end now r n x).view o
+      agrees : (x : TaskView × Outcome) → Traces did (Tree.control r.message.control now v.task) w p x w' → (o : Original.Original) → Settles now r.message.ticket (state_of v.task n raised false) x o → Agrees (control_end now r n x).view o
       agrees x trace o z =
           let ends = traced did v.task granted (Carried r.message.control (is_running v.task.state)) (Tree.control r.message.control now v.task) w w' p x (control_fits r.message.control now v.task) trace _ _ (fitting v.task) in
           let hand = take_in now v.mailbox r n order e in
           let match : MatchesTickets false n.tickets raised = rw ((take_moves now v.mailbox r n e).0, ← free) h in
-          rw z (settle_agrees now r n x hand.order (λ i. hand.free (ends.timed i)) match)
+          rw z (settle_agrees now v.task r n x hand.order (λ i. hand.free (ends.timed i)) match)
 
   -- a turn of the loop
   turn_comes : (kind : StepKind) (own : ℕ) (raised : List ℕ) → MatchesTickets v.closed v.mailbox.tickets raised → (w w' : W) (p : List Event) (s : StepEnd) → IsApart am kind now v (journal p) → Traces did (tree_of kind own now v) w p s w' → Comes (Original.branch am kind own now (original_of v raised)) p s
@@ -96,12 +96,12 @@ module _ {W : Type 0} (did : W → (c : Call) → Reply c → W → Type 0) (am 
       by None e run = rw (run.0, run.1) (original_of v raised, (refl, refl, refl), agree h)
       by (Some (r, n)) e run = control_comes r n e raised h w w' p s apart run
   turn_comes Kinds.Child own raised h w w' p s apart run =
-      let f = flags_of v.mailbox raised v.closed in
-      let like = poll_like am v.task.foreground.pauses (Speaks Drops) (λ program options way time child k. k refl) now 0 v.task f refl in
+      let f = original_of v raised in
+      let like = poll_like am v.task.foreground.pauses (Speaks Drops) (λ _ _ _ _ _ h. h refl) now 0 v.task f refl in
       end_comes (Speaks Drops) (Seen f) _ _ (poll_end now v) w w' p s like (spoken Drops p apart.waiting) (λ x _ o z. rw z (poll_agrees now v x order h)) run
   turn_comes Kinds.Pause own raised h w w' p s apart run =
-      let f = flags_of v.mailbox raised v.closed in
-      end_comes (Speaks ⊤) (Paused f) _ _ (pause_end now v) w w' p s (pause_like (Speaks ⊤) own v.task f) (spoken ⊤ p (λ _. tt)) (λ x _ o z. rw z (agree h)) run
+      let f = original_of v raised in
+      end_comes (Speaks ⊤) (Paused f) _ _ (pause_end now v) w w' p s (pause_like (Speaks ⊤) f own v.task) (spoken ⊤ p (λ _. tt)) (λ x _ o z. rw z (agree h)) run
 
   pub branch_comes : (kind : StepKind) (own : ℕ) (o : Original.Original) → Agrees v o → (w w' : W) (p : List Event) (s : StepEnd) → IsApart am kind now v (journal p) → Traces did (tree_of kind own now v) w p s w' → Comes (Original.branch am kind own now o) p s
   branch_comes kind own o a w w' p s apart run = rw (same_original a) (turn_comes kind own o.raised (tickets_match a) w w' p s apart run)
