@@ -134,26 +134,33 @@ abbrev pub AtOnce : Amendments → Control → CommandState → Type 0
 AtOnce am NextEnding Pending = am.at_once ≡ true
 AtOnce am c s = ⊤
 
+-- how the original goes on
+abbrev Rest : Type 0
+Rest = Original.Original → Interaction Original.Original
+
 -- Where the original keeps the pauses `ps` that wait, P speaks of no granted spawn unless none wait.
 module _ (am : Amendments) (ps : List ℕ) (P : (c : Call) → Reply c → Type 0) (drops : (program : ℕ) (options : SpawnOptions) (way time child : ℕ) → P (to_host (spawn program options way time)) (Ok child) → (if am.drops then [] else ps) ≡ []) where
+  abbrev Kept : TaskView → Type 0
+  Kept t = t.foreground.pauses ≡ ps
+
   -- the same task on both sides, with the pauses that waited
   abbrev Same : Flags → TaskView → Original.Original → Type 0
-  Same f t o = (o ≡ with_task t f) × (t.foreground.pauses ≡ ps)
+  Same f t o = (o ≡ with_task t f) × Kept t
 
-  resume_like : (p : Option ℕ) (s : CommandState) (t : TaskView) (f : Flags) → t.foreground.pauses ≡ ps → Like P (Same f) (Tree.resume_by p s t) (Original.resume_in p s (with_task t f))
+  resume_like : (p : Option ℕ) (s : CommandState) (t : TaskView) (f : Flags) → Kept t → Like P (Same f) (Tree.resume_by p s t) (Original.resume_in p s (with_task t f))
   resume_like None s t f e = (_, refl, (refl, e))
   resume_like (Some p) (Running child started) t f e = (_, refl, λ a k. (_, refl, (refl, e)))
   resume_like (Some p) s t f e = (_, refl, (refl, e))
 
-  reclaim_like : (held : Bool) (t : TaskView) (f : Flags) → t.foreground.grant ≡ held → t.foreground.pauses ≡ ps → Like P (Same f) (Tree.yield_if held t) (Original.release_if held (record (with_task t f) { pause_watch = false }))
+  reclaim_like : (held : Bool) (t : TaskView) (f : Flags) → t.foreground.grant ≡ held → Kept t → Like P (Same f) (Tree.yield_if held t) (Original.release_if held (record (with_task t f) { pause_watch = false }))
   reclaim_like false t f g e = (_, refl, (rw g refl, e))
   reclaim_like true t f g e = (_, refl, λ a k. (_, refl, (refl, e)))
 
   -- what is the same, and then goes on alike
-  then_like : {C D : Type 0} (R : C → D → Type 0) (f : Flags) (t : Interaction TaskView) (u : Interaction Original.Original) (g : TaskView → Interaction C) (h : Original.Original → Interaction D) → Like P (Same f) t u → ((x : TaskView) → x.foreground.pauses ≡ ps → Like P R (g x) (h (with_task x f))) → Like P R (bind t g) (bind u h)
+  then_like : {C D : Type 0} (R : C → D → Type 0) (f : Flags) (t : Interaction TaskView) (u : Interaction Original.Original) (g : TaskView → Interaction C) (h : Original.Original → Interaction D) → Like P (Same f) t u → ((x : TaskView) → Kept x → Like P R (g x) (h (with_task x f))) → Like P R (bind t g) (bind u h)
   then_like R f t u g h k rest = like_then P (Same f) R t u g h k (λ x y s. rw s.0 (rest x s.1))
 
-  way_like : (t : TaskView) (f : Flags) → t.foreground.pauses ≡ ps → Like P (Same f) (Tree.make_way t) (Original.resume_and_reclaim (with_task t f))
+  way_like : (t : TaskView) (f : Flags) → Kept t → Like P (Same f) (Tree.make_way t) (Original.resume_and_reclaim (with_task t f))
   way_like t f e = then_like (Same f) f (Tree.resume t) (Original.resume_paused_command (with_task t f)) Tree.yield Original.reclaim (resume_like t.foreground.paused t.state t f e) (λ x d. reclaim_like x.foreground.grant x f refl d)
 
   -- a fault is told on both sides
@@ -165,7 +172,7 @@ module _ (am : Amendments) (ps : List ℕ) (P : (c : Call) → Reply c → Type 
 
   module _ (now flag : ℕ) where
     -- an end by force, and what follows it on both sides
-    force_like : {O : Type 0} (R : TaskView × O → Original.Original → Type 0) (child began : ℕ) (t : TaskView) (f : Flags) (g : TaskView × Result ⊤ Fault → Course O) (h : Original.Original → Interaction Original.Original) → ((fault : Fault) → Like P R (g (t, Err fault)) (done (with_task t (Original.raise flag f)))) → ((end : ProcessEnd) → let t₁ = Tree.in_state (Finished end began now) t in Like P R (g (t₁, Ok tt)) (h (with_task t₁ (Original.raise_on_end f)))) → Like P R (bind (Tree.report (Tree.end_by_force child began now t)) g) (Original.stop_child child began now flag (with_task t f) h)
+    force_like : {O : Type 0} (R : TaskView × O → Original.Original → Type 0) (child began : ℕ) (t : TaskView) (f : Flags) (g : TaskView × Result ⊤ Fault → Course O) (h : Rest) → ((fault : Fault) → Like P R (g (t, Err fault)) (done (with_task t (Original.raise flag f)))) → ((end : ProcessEnd) → let t₁ = Tree.in_state (Finished end began now) t in Like P R (g (t₁, Ok tt)) (h (with_task t₁ (Original.raise_on_end f)))) → Like P R (bind (Tree.report (Tree.end_by_force child began now t)) g) (Original.stop_child child began now flag (with_task t f) h)
     force_like R child began t f g h faulted ended = (_, refl, λ a p. kills a)
       where
         waits : (b : Result ProcessEnd Fault) → Like P R (bind (Tree.report (done (Tree.after_wait began now t b))) g) (Original.try_with_handler flag (with_task t f, b) (λ status o. h (Original.raise_on_end (record o { command_state = Finished status began now }))))
@@ -177,7 +184,7 @@ module _ (am : Amendments) (ps : List ℕ) (P : (c : Call) → Reply c → Type 
         kills (Err fault) = told_like R t.settings.handler fault _ _ _ (faulted fault)
 
     -- a launch, and what follows it on both sides
-    launch_like : {X D : Type 0} (R : X → D → Type 0) (t : TaskView) (f : Flags) (g : TaskView × Result ⊤ Fault → Interaction X) (h : Original.Original × Result ⊤ Fault → Interaction D) → t.foreground.pauses ≡ ps → ((x : TaskView) (r : Result ⊤ Fault) → Like P R (bind (Tree.report (done (x, r))) g) (h (with_task x f, r))) → Like P R (bind (Tree.report (Tree.launch now t)) g) (bind (Original.launch am now (with_task t f)) h)
+    launch_like : {X D : Type 0} (R : X → D → Type 0) (t : TaskView) (f : Flags) (g : TaskView × Result ⊤ Fault → Interaction X) (h : Original.Original × Result ⊤ Fault → Interaction D) → Kept t → ((x : TaskView) (r : Result ⊤ Fault) → Like P R (bind (Tree.report (done (x, r))) g) (h (with_task x f, r))) → Like P R (bind (Tree.report (Tree.launch now t)) g) (bind (Original.launch am now (with_task t f)) h)
     launch_like R t f g h e rest = hooks t.settings.hook
       where
         fresh : TaskView
@@ -199,57 +206,60 @@ module _ (am : Amendments) (ps : List ℕ) (P : (c : Call) → Reply c → Type 
     abbrev Ends : Flags → TaskView × Outcome → Original.Original → Type 0
     Ends f x o = Settles now flag f x o
 
+    abbrev Arm : Flags → Course Outcome → Interaction Original.Original → Type 0
+    Arm f t u = Like P (Ends f) t u
+
     -- the child is started, and then the control has this outcome
-    launched_like : (f₀ f : Flags) (o : Outcome) (t : TaskView) → settled now flag o f₀ ≡ Original.raise flag f → t.foreground.pauses ≡ ps → Like P (Ends f₀) (Tree.begin now o t) (Original.start_again am now flag (with_task t f))
+    launched_like : (f₀ f : Flags) (o : Outcome) (t : TaskView) → settled now flag o f₀ ≡ Original.raise flag f → Kept t → Arm f₀ (Tree.begin now o t) (Original.start_again am now flag (with_task t f))
     launched_like f₀ f o t e d = launch_like (Ends f₀) t f _ _ d by
       where
-        by : (x : TaskView) (r : Result ⊤ Fault) → Like P (Ends f₀) (bind (Tree.report (done (x, r))) (λ x. done (x.0, o))) (Original.try_with_handler flag (with_task x f, r) (λ _ o₁. Original.finish flag o₁))
+        by : (x : TaskView) (r : Result ⊤ Fault) → Arm f₀ (bind (Tree.report (done (x, r))) (λ x. done (x.0, o))) (Original.try_with_handler flag (with_task x f, r) (λ _ o₁. Original.finish flag o₁))
         by x (Ok u) = (_, refl, rw e refl)
         by x (Err fault) = told_like (Ends f₀) x.settings.handler fault _ _ _ (_, refl, rw e refl)
 
-    stopped_like : (s : CommandState) (t : TaskView) (f : Flags) → Like P (Ends f) (Tree.stop_in s now t) (Original.stop s now flag (with_task t f))
+    stopped_like : (s : CommandState) (t : TaskView) (f : Flags) → Arm f (Tree.stop_in s now t) (Original.stop s now flag (with_task t f))
     stopped_like (Running child began) t f = force_like (Ends f) child began t f _ (Original.finish flag) (λ fault. (_, refl, refl)) (λ end. (_, refl, refl))
     stopped_like s t f = (_, refl, refl)
 
-    replace_like : (child began : ℕ) (t : TaskView) (f : Flags) → t.foreground.pauses ≡ ps → Like P (Ends f) (Tree.replace child began now t) (Original.stop_child child began now flag (with_task t f) (Original.start_again am now flag))
+    replace_like : (child began : ℕ) (t : TaskView) (f : Flags) → Kept t → Arm f (Tree.replace child began now t) (Original.stop_child child began now flag (with_task t f) (Original.start_again am now flag))
     replace_like child began t f d = force_like (Ends f) child began t f _ (Original.start_again am now flag) (λ fault. (_, refl, refl)) (λ end. launched_like f (Original.raise_on_end f) Ended (Tree.in_state (Finished end began now) t) refl d)
 
-    restart_like : (s : CommandState) (t : TaskView) (f : Flags) → t.foreground.pauses ≡ ps → Like P (Ends f) (Tree.restart_in s now t) (Original.try_restart am s now flag (with_task t f))
+    restart_like : (s : CommandState) (t : TaskView) (f : Flags) → Kept t → Arm f (Tree.restart_in s now t) (Original.try_restart am s now flag (with_task t f))
     restart_like (Running child began) t f d = replace_like child began t f d
     restart_like s t f d = (_, refl, refl)
 
-    continue_like : (s : CommandState) (t : TaskView) (f : Flags) → t.foreground.pauses ≡ ps → Like P (Ends f) (Tree.continue_in s now t) (Original.continue_restart am s now flag (with_task t f))
+    continue_like : (s : CommandState) (t : TaskView) (f : Flags) → Kept t → Arm f (Tree.continue_in s now t) (Original.continue_restart am s now flag (with_task t f))
     continue_like (Running child began) t f d = replace_like child began t f d
     continue_like s t f d = launched_like f f Settled t refl d
 
     -- a signal to the child, and what follows where the host takes it
-    signal_like : (s : CommandState) (n : ℕ) (o : Outcome) (t : TaskView) (f : Flags) (h : Original.Original → Interaction Original.Original) → Like P (Ends f) (done (t, o)) (h (with_task t f)) → Like P (Ends f) (Tree.signal_in s n o t) (Original.signal_child s n flag (with_task t f) h)
+    signal_like : (s : CommandState) (n : ℕ) (o : Outcome) (t : TaskView) (f : Flags) (h : Rest) → Arm f (done (t, o)) (h (with_task t f)) → Arm f (Tree.signal_in s n o t) (Original.signal_child s n flag (with_task t f) h)
     signal_like (Running child began) n o t f h k = (_, refl, λ a p. by a)
       where
-        by : (a : Result ⊤ Fault) → Like P (Ends f) (bind (Tree.report (done (t, a))) (λ x. done (x.0, Tree.unless_faulted o x.1))) (Original.try_with_handler flag (with_task t f, a) (λ _ o₁. h o₁))
+        by : (a : Result ⊤ Fault) → Arm f (bind (Tree.report (done (t, a))) (λ x. done (x.0, Tree.unless_faulted o x.1))) (Original.try_with_handler flag (with_task t f, a) (λ _ o₁. h o₁))
         by (Ok u) = k
         by (Err fault) = told_like (Ends f) t.settings.handler fault _ _ _ (_, refl, refl)
     signal_like s n o t f h k = (_, refl, refl)
 
     -- the child is asked to end, and the original begins a grace so
-    grace_like : (n grace : ℕ) (end : GraceEnd) (t : TaskView) (f : Flags) (h : Original.Original → Interaction Original.Original) → t.foreground.pauses ≡ ps → ((x : TaskView) → Like P (Ends f) (done (x, Graced grace end)) (h (with_task x f))) → Like P (Ends f) (Tree.end_gracefully n grace end t) (bind (Original.resume_paused_command (with_task t f)) (λ o. Original.signal_child o.command_state n flag o h))
+    grace_like : (n grace : ℕ) (end : GraceEnd) (t : TaskView) (f : Flags) (h : Rest) → Kept t → ((x : TaskView) → Arm f (done (x, Graced grace end)) (h (with_task x f))) → Arm f (Tree.end_gracefully n grace end t) (bind (Original.resume_paused_command (with_task t f)) (λ o. Original.signal_child o.command_state n flag o h))
     grace_like n grace end t f h d k = then_like (Ends f) f (Tree.resume t) (Original.resume_paused_command (with_task t f)) _ _ (resume_like t.foreground.paused t.state t f d) (λ x _. signal_like x.state n (Graced grace end) x f h (k x))
 
-    delete_like : (s : CommandState) (t : TaskView) (f : Flags) → Like P (Ends f) (Tree.delete_in s t) (done (record (Original.raise flag (with_task t f)) { gone = true }))
+    delete_like : (s : CommandState) (t : TaskView) (f : Flags) → Arm f (Tree.delete_in s t) (done (record (Original.raise flag (with_task t f)) { gone = true }))
     delete_like (Running child began) t f = (_, refl, refl)
     delete_like s t f = (_, refl, refl)
 
-    start_like : (s : CommandState) (t : TaskView) (f : Flags) → t.foreground.pauses ≡ ps → Like P (Ends f) (Tree.start_unless (is_running s) now t) (Original.start am s now flag (with_task t f))
+    start_like : (s : CommandState) (t : TaskView) (f : Flags) → Kept t → Arm f (Tree.start_unless (is_running s) now t) (Original.start am s now flag (with_task t f))
     start_like (Running child began) t f d = (_, refl, refl)
     start_like Pending t f d = launched_like f f Settled t refl d
     start_like (Finished end began finished) t f d = launched_like f f Settled t refl d
 
-    ending_like : (s : CommandState) (t : TaskView) (f : Flags) → AtOnce am NextEnding s → Like P (Ends f) (done (t, Tree.joins s)) (done (Original.next_ending am s flag (with_task t f)))
+    ending_like : (s : CommandState) (t : TaskView) (f : Flags) → AtOnce am NextEnding s → Arm f (done (t, Tree.joins s)) (done (Original.next_ending am s flag (with_task t f)))
     ending_like Pending t f e = (_, refl, rw e refl)
     ending_like (Running child began) t f e = (_, refl, refl)
     ending_like (Finished end began finished) t f e = (_, refl, refl)
 
-    pub control_like : (c : Control) (t : TaskView) (f : Flags) → AtOnce am c t.state → t.foreground.pauses ≡ ps → Like P (Ends f) (Tree.control c now t) (Original.arm am c now flag (with_task t f))
+    pub control_like : (c : Control) (t : TaskView) (f : Flags) → AtOnce am c t.state → Kept t → Arm f (Tree.control c now t) (Original.arm am c now flag (with_task t f))
     control_like Start t f e d = start_like t.state t f d
     control_like Stop t f e d = then_like (Ends f) f (Tree.make_way t) (Original.resume_and_reclaim (with_task t f)) _ _ (way_like t f d) (λ x k. stopped_like x.state x f)
     control_like (GracefulStop n grace) t f e d = grace_like n grace GraceEnds.Stop t f _ d (λ x. (_, refl, refl))
@@ -264,38 +274,41 @@ module _ (am : Amendments) (ps : List ℕ) (P : (c : Call) → Reply c → Type 
 
     -- THE WAIT FOR THE CHILD
 
+    abbrev Wait : Flags → Course PollOutcome → Interaction Original.Original → Type 0
+    Wait f t u = Like P (Seen f) t u
+
     -- what follows an end, where g are the flags after it
-    follow_like : (f : Flags) (r : Option ℕ) (t : TaskView) (g : Flags) → g.on_end_restart ≡ r → t.foreground.pauses ≡ ps → record g { on_end_restart = None } ≡ ended_flags f → again r (record g { on_end_restart = None }) ≡ seen Renewed f → Like P (Seen f) (Tree.follow (is_some r) now t) (Original.continue_on_end am now r (with_task t g))
+    follow_like : (f : Flags) (r : Option ℕ) (t : TaskView) (g : Flags) → g.on_end_restart ≡ r → Kept t → record g { on_end_restart = None } ≡ ended_flags f → again r (record g { on_end_restart = None }) ≡ seen Renewed f → Wait f (Tree.follow (is_some r) now t) (Original.continue_on_end am now r (with_task t g))
     follow_like f None t g e d over renewed =
         let same : with_task t g ≡ with_task t (record g { on_end_restart = None }) = rw e refl in
         (_, refl, same ∙ ap (λ g. with_task t g) over)
     follow_like f (Some n) t g e d over renewed = launch_like (Seen f) t (record g { on_end_restart = None }) _ _ d by
       where
-        by : (x : TaskView) (r : Result ⊤ Fault) → Like P (Seen f) (bind (Tree.report (done (x, r))) (λ x. done (x.0, if is_ok x.1 then Renewed else Over))) (Original.after_restart n (with_task x (record g { on_end_restart = None }), r))
+        by : (x : TaskView) (r : Result ⊤ Fault) → Wait f (bind (Tree.report (done (x, r))) (λ x. done (x.0, if is_ok x.1 then Renewed else Over))) (Original.after_restart n (with_task x (record g { on_end_restart = None }), r))
         by x (Ok u) = (_, refl, ap (λ g. with_task x g) renewed)
         by x (Err fault) = told_like (Seen f) x.settings.handler fault _ _ _ (_, refl, ap (λ g. with_task x g) over)
 
-    pub poll_like : (t : TaskView) (f : Flags) → t.foreground.pauses ≡ ps → Like P (Seen f) (Tree.poll_child (is_some f.on_end_restart) now t) (Original.wait_branch am t.state now (with_task t f))
+    pub poll_like : (t : TaskView) (f : Flags) → Kept t → Wait f (Tree.poll_child (is_some f.on_end_restart) now t) (Original.wait_branch am t.state now (with_task t f))
     poll_like t f d = by t.state
       where
-        follows : (x : TaskView) → x.foreground.pauses ≡ ps → Like P (Seen f) (Tree.follow (is_some f.on_end_restart) now x) (Original.end_wait am now (with_task x f))
+        follows : (x : TaskView) → Kept x → Wait f (Tree.follow (is_some f.on_end_restart) now x) (Original.end_wait am now (with_task x f))
         follows x e = by f.stop_timer refl
           where
-            by : (k : Option StopTimer) → f.stop_timer ≡ k → Like P (Seen f) (Tree.follow (is_some f.on_end_restart) now x) (let o = Original.raise_on_end (Original.erase_timer k (with_task x f)) in Original.continue_on_end am now o.on_end_restart o)
+            by : (k : Option StopTimer) → f.stop_timer ≡ k → Wait f (Tree.follow (is_some f.on_end_restart) now x) (let o = Original.raise_on_end (Original.erase_timer k (with_task x f)) in Original.continue_on_end am now o.on_end_restart o)
             by None s = follow_like f f.on_end_restart x (Original.raise_on_end f) refl e (rw s refl) (rw s refl)
             by (Some k) s = follow_like f f.on_end_restart x (Original.raise_on_end (Original.erase_timer (Some k) f)) refl e (rw s refl) (rw s refl)
 
-        polls : (began : ℕ) (a : Result (Option ProcessEnd) Fault) → Like P (Seen f) (Tree.after_poll (is_some f.on_end_restart) began now t a) (Original.after_wait am began now (with_task t f) a)
+        polls : (began : ℕ) (a : Result (Option ProcessEnd) Fault) → Wait f (Tree.after_poll (is_some f.on_end_restart) began now t a) (Original.after_wait am began now (with_task t f) a)
         polls began (Ok None) = (_, refl, refl)
         polls began (Ok (Some end)) =
             let t₁ = Tree.in_state (Finished end began now) t in
             then_like (Seen f) f (Tree.yield t₁) (Original.reclaim (with_task t₁ f)) _ _ (reclaim_like t.foreground.grant t₁ f refl d) follows
         polls began (Err fault) = told t.settings.handler
           where
-            told : (n : Option ℕ) → Like P (Seen f) (bind (Tree.tell_fault n (Err fault)) (λ _. done (t, Faulted))) (bind (Original.handle n fault) (λ _. done (with_task t f)))
+            told : (n : Option ℕ) → Wait f (bind (Tree.tell_fault n (Err fault)) (λ _. done (t, Faulted))) (bind (Original.handle n fault) (λ _. done (with_task t f)))
             told (Some n) = (_, refl, λ a p. (_, refl, refl))
             told None = (_, refl, refl)
 
-        by : (s : CommandState) → Like P (Seen f) (Tree.poll_in s (is_some f.on_end_restart) now t) (Original.wait_branch am s now (with_task t f))
+        by : (s : CommandState) → Wait f (Tree.poll_in s (is_some f.on_end_restart) now t) (Original.wait_branch am s now (with_task t f))
         by (Running child began) = (_, refl, λ a p. polls began a)
         by s = (_, refl, refl)

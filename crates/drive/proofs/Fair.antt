@@ -31,7 +31,7 @@ use Rattle.drive.specs.Calls.{Makes, AnswersAlone, known_ticket, as_value, send_
 use Rattle.tickets.proofs.Tables.{goes_again}
 use Rattle.supervisor.specs.declared.answers.Stepped.{Stepped}
 use Rattle.drive.specs.Answers.{step_done}
-use Rattle.drive.proofs.Steps.{makes-spawns}
+use Rattle.drive.proofs.Steps.{CountsSpawns, step_cases, makes-spawns}
 use Rattle.drive.specs.Laws.{accepted_controls, collects, IsFair}
 use Rattle.drive.proofs.Mailboxes.{Moves, any, still_moves, carried_moves, settle_poll_moves, admit_all_moves, vacate_moves}
 
@@ -110,26 +110,24 @@ module _ {H T : Type 0} (by_host : Host.Ghosts H) (by_terminal : Terminal.Ghosts
       record {
         issued = moves.issued;
         taken = omega (arith, moves.orders, ap (λ (x : Done). x.tally.ordered) q.does);
-        spawned = makes-spawns by_host by_terminal c a d b made;
+        spawned = makes-spawns by_host by_terminal a c d b made;
         tickets = λ s l e. moves.tickets s l (rw e refl);
         refused = unchanged a b d.answer q.answers.unchanged q.host q.terminal q.sheet;
       }
 
   step_fair : (kind : StepKind) (time : ℕ) (a : Moment H T) (d : Done) (b : Moment H T) → Makes by_host by_terminal (Calls.Step kind time) a d b → IsFair by_host by_terminal (Calls.Step kind time) a d b
-  step_fair kind time a d b made = by made.answer made.step made.does
-    where
-      own : ℕ
-      own = (by_terminal.book a.terminal).own
-
-      by : (r : Result Stepped Refusal) → StepsOrRefuses by_host by_terminal (tree_of kind own) time a r b → d ≡ step_done r b.sheet → IsFair by_host by_terminal (Calls.Step kind time) a d b
-      by (Err r) h e = record { issued = grind (arith, h.1); taken = grind (arith, h.1, e); spawned = makes-spawns by_host by_terminal (Calls.Step kind time) a d b made; tickets = λ s l _. rw h.1 (goes_again (mark_of s (job_view a.job).mailbox.tickets.table)); refused = rw e h.1 }
-      by (Ok s) h e =
-          let moves : Ends (job_view a.job) (step_end b.job s) = step_moves kind time (job_view a.job) _ (step_end b.job s) (way_of kind own time a b s h.1) in
-          record { issued = moves.issued; taken = rw e moves.orders; spawned = makes-spawns by_host by_terminal (Calls.Step kind time) a d b made; tickets = λ k l _. moves.tickets k l refl; refused = rw e tt }
+  step_fair kind time a d b made =
+      let tickets = λ (s : ℕ). goes_again (mark_of s (job_view a.job).mailbox.tickets.table) in
+      step_cases (λ d b. CountsSpawns by_host a d b → IsFair by_host by_terminal (Calls.Step kind time) a d b)
+      (λ r may f. record { issued = omega arith; taken = omega arith; spawned = f; tickets = λ s l _. tickets s; refused = refl })
+      (λ s may k f.
+          let moves : Ends (job_view a.job) (step_end b.job s) = step_moves kind time (job_view a.job) _ (step_end b.job s) (way_of kind (by_terminal.book a.terminal).own time a b s k) in
+          record { issued = moves.issued; taken = moves.orders; spawned = f; tickets = λ k l _. moves.tickets k l refl; refused = tt })
+      made (makes-spawns by_host by_terminal a (Calls.Step kind time) d b made)
 
   pub fair : (c : Call) (a : Moment H T) (d : Done) (b : Moment H T) → Makes by_host by_terminal c a d b → IsFair by_host by_terminal c a d b
   fair (Calls.Send s) a d b r = quiet_fair (Calls.Send s) (send_value s) (send_keeps s) a d b r r
   fair (Calls.Step kind time) a d b r = step_fair kind time a d b r
   fair (Calls.Pause signal) a d b r = quiet_fair (Calls.Pause signal) (pause_value signal) (pause_keeps signal) a d b r r
-  fair (Calls.Look ticket) a d b r = record { issued = grind (arith, r.1); taken = grind (arith, r.0, r.1); spawned = makes-spawns by_host by_terminal (Calls.Look ticket) a d b r; tickets = λ s l _. rw r.1 (goes_again (mark_of s (job_view a.job).mailbox.tickets.table)); refused = kept a b d.answer r.1 }
+  fair (Calls.Look ticket) a d b r = record { issued = grind (arith, r.1); taken = grind (arith, r.0, r.1); spawned = makes-spawns by_host by_terminal a (Calls.Look ticket) d b r; tickets = λ s l _. rw r.1 (goes_again (mark_of s (job_view a.job).mailbox.tickets.table)); refused = kept a b d.answer r.1 }
   fair (Calls.Collect ticket) a d b r = quiet_fair (Calls.Collect ticket) (collect_value (known_ticket ticket)) (collect_keeps ticket) a d b r r

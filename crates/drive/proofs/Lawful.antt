@@ -17,11 +17,11 @@ use Rattle.supervisor.specs.declared.queues.Priority.{Priority}
 use Rattle.supervisor.specs.declared.sends.Send.{Send}
 use Rattle.supervisor.specs.Job as Spec
 use Rattle.supervisor.specs.declared.job.Job.{Job}
-use Rattle.supervisor.specs.Job.{JobView, children_of, runs, tree_of}
+use Rattle.supervisor.specs.Job.{JobView, children_of, runs, may_step, tree_of}
 use Rattle.supervisor.specs.Mailbox as Mail
 use Rattle.supervisor.specs.Mailbox.{MailboxView, admit_all, admit, may_send}
 use Rattle.supervisor.specs.Sends.{priority_of, controls_of}
-use Rattle.supervisor.specs.Steps.{Moment, job_view, world_at, step_end, StepsOrRefuses}
+use Rattle.supervisor.specs.Steps.{Moment, job_view, step_end, Steps}
 use Rattle.supervisor.specs.Timers.{owed_starts}
 use Rattle.supervisor.proofs.Ways.{StepFits, step_fits, way_traced}
 use Rattle.supervisor.proofs.Steps.{not_closed}
@@ -35,7 +35,7 @@ use Rattle.drive.specs.Laws.{BooksFit}
 use Rattle.supervisor.specs.declared.answers.StepKind.TheVariants.{Control}
 use Rattle.supervisor.specs.Laws.{TakesWhenDue}
 use Rattle.supervisor.proofs.Graces.{control_accepted}
-use Rattle.drive.proofs.Steps.{accepted, tried-spawns}
+use Rattle.drive.proofs.Steps.{accepted, step_cases, tried-spawns}
 
 -- what the laws ask of a job is as it was
 record Same (v w : JobView) : Type 0 where
@@ -88,27 +88,22 @@ module _ {H T : Type 0} (by_host : Host.Ghosts H) (by_terminal : Terminal.Ghosts
       }
 
   step_goes : (kind : StepKind) (time : ℕ) (a : Moment H T) (d : Done) (b : Moment H T) → Makes by_host by_terminal (Calls.Step kind time) a d b → Goes a d b
-  step_goes kind time a d b made = by made.answer made.step made.does
+  step_goes kind time a d b made = step_cases (λ d b. Goes a d b) (λ r may. record { books = λ f. f; starts = omega arith }) by made
     where
-      own : ℕ
-      own = (by_terminal.book a.terminal).own
-
       v : JobView
       v = job_view a.job
 
-      by : (r : Result Stepped Refusal) → StepsOrRefuses by_host by_terminal (tree_of kind own) time a r b → d ≡ step_done r b.sheet → Goes a d b
-      by (Err r) h e = record { books = λ f. rw h.1 f; starts = rw (h.1, e) (omega arith) }
-      by (Ok s) h e =
-          let run = h.1.conducts in
-          let free = not_closed time (length a.sheet) v h.0 in
-          let fits = λ (h : HostBook) (u : TerminalBook) (f : Fitting v.task h u). step_fits time v kind _ _ free (way_traced time v (IsAnswered by_host by_terminal) kind own a.job.granted (world_at a) (world_at b) run.trace (step_end b.job s) run.traces h u f) in
-          let tried = tried-spawns by_host by_terminal (tree_of kind own) time a b s h in
-          let starts : StepFits v (after (fitting_host v.task) (fitting_terminal v.task) run.trace) (step_end b.job s) = fits (fitting_host v.task) (fitting_terminal v.task) (fitting v.task) in
+      by : (s : Stepped) → may_step time (length a.sheet) v ≡ Ok tt → Steps by_host by_terminal (tree_of kind (by_terminal.book a.terminal).own time v) a s b → Goes a (step_done (Ok s) b.sheet) b
+      by s may k =
+          let trace = k.conducts.trace in
+          let free = not_closed time (length a.sheet) v may in
+          let fits = λ (h : HostBook) (u : TerminalBook) (f : Fitting v.task h u). step_fits time v kind _ _ free (way_traced time v (IsAnswered by_host by_terminal) kind (by_terminal.book a.terminal).own a.job.granted _ _ trace (step_end b.job s) k.conducts.traces h u f) in
+          let starts : StepFits v (after (fitting_host v.task) (fitting_terminal v.task) trace) (step_end b.job s) = fits (fitting_host v.task) (fitting_terminal v.task) (fitting v.task) in
           record {
             books = λ f.
-                let step : StepFits v (after (by_host.book a.host) (by_terminal.book a.terminal) run.trace) (step_end b.job s) = fits (by_host.book a.host) (by_terminal.book a.terminal) (record { roster = rw free at f.roster; grants = f.grants }) in
-                record { roster = ap (λ x. x.roster) h.1.host_book ∙ step.roster; grants = ap (λ x. x.grants) h.1.terminal_book ∙ step.grants; holder = holds b.job };
-            starts = rw e (omega (arith, starts.starts, journal-spawns run.trace, tried));
+                let step : StepFits v (after (by_host.book a.host) (by_terminal.book a.terminal) trace) (step_end b.job s) = fits (by_host.book a.host) (by_terminal.book a.terminal) (record { roster = rw free at f.roster; grants = f.grants }) in
+                record { roster = ap (λ x. x.roster) k.host_book ∙ step.roster; grants = ap (λ x. x.grants) k.terminal_book ∙ step.grants; holder = holds b.job };
+            starts = omega (arith, starts.starts, journal-spawns trace, tried-spawns k);
           }
 
   pub goes : (c : Call) (a : Moment H T) (d : Done) (b : Moment H T) → Makes by_host by_terminal c a d b → Goes a d b
@@ -121,5 +116,5 @@ module _ {H T : Type 0} (by_host : Host.Ghosts H) (by_terminal : Terminal.Ghosts
   -- what an accepted control step makes of a timer
   pub control_taken : (time : ℕ) (a : Moment H T) (d : Done) (b : Moment H T) → is_ok d.answer ≡ true → Makes by_host by_terminal (Calls.Step Control time) a d b → TakesWhenDue time (job_view a.job) (job_view b.job)
   control_taken time a d b k made =
-      let step = accepted by_host by_terminal Control time a d b made k in
+      let step = accepted made k in
       (control_accepted time a b step.0 (a.job.in_order (not_closed time (length a.sheet) (job_view a.job) step.1)) step.2).0
