@@ -42,54 +42,54 @@ abbrev Ends : JobView → StepEnd → Type 0
 Ends v s = Moves 0 0 (from_bool s.ordered) any v.mailbox s.view.mailbox
 
 step_moves : (kind : StepKind) (time : ℕ) (v : JobView) (b : Books) (s : StepEnd) → Way time v kind b s → Ends v s
-step_moves Control time v b s (None, e, w) = rw w.1 (still_moves any v.mailbox v.mailbox refl refl)
+step_moves Control time v b s (None, e, w) = rw w.1 (still_moves refl refl)
 step_moves Control time v b s (Some (r, n), e, w) = rw w.2 (carried_moves time v.mailbox r n w.0.1 e)
 step_moves Child time v b s w = rw w.2 (settle_poll_moves w.0.1 v.mailbox)
-step_moves Pause time v b s w = rw w.2 (still_moves any v.mailbox v.mailbox refl refl)
+step_moves Pause time v b s w = rw w.2 (still_moves refl refl)
 
 -- CALLS THAT ASK NOTHING OUTSIDE
 
--- what such a call makes of a mailbox, by what it answers
+-- what such a call makes of the mailbox of the job v, by what it answers
+abbrev KeepsIf : Call → Bool → JobView → JobView × Result Value Refusal → Type 0
+KeepsIf c closed v x = Moves (length (accepted_controls c closed x.1)) (count_by orders (accepted_controls c closed x.1)) 0 (λ s. not (collects c s)) v.mailbox x.0.mailbox
+
 abbrev Keeps : Call → JobView → JobView × Result Value Refusal → Type 0
-Keeps c v x = Moves (length (accepted_controls c v.closed x.1)) (count_by orders (accepted_controls c v.closed x.1)) 0 (λ s. not (collects c s)) v.mailbox x.0.mailbox
+Keeps c v x = KeepsIf c v.closed v x
 
 send_keeps : (s : Send) (v : JobView) → Keeps (Calls.Send s) v (send_value s v)
 send_keeps s v = by v.closed
   where
-    out : Bool → JobView × Result ℕ Refusal
-    out closed = if closed then (v, Ok 0) else Spec.after_send (Mail.send (priority_of s) (controls_of s) v.mailbox) v
+    valued : JobView × Result ℕ Refusal → JobView × Result Value Refusal
+    valued x = (x.0, as_value Ticket x.1)
 
-    admits : (r : Result ⊤ Refusal) → Moves (length (accepted_controls (Calls.Send s) false (as_value Ticket (Mail.send_if r (priority_of s) (controls_of s) v.mailbox).1))) (count_by orders (accepted_controls (Calls.Send s) false (as_value Ticket (Mail.send_if r (priority_of s) (controls_of s) v.mailbox).1))) 0 any v.mailbox (Mail.send_if r (priority_of s) (controls_of s) v.mailbox).0
+    admits : (r : Result ⊤ Refusal) → KeepsIf (Calls.Send s) false v (valued (Spec.after_send (Mail.send_if r (priority_of s) (controls_of s) v.mailbox) v))
     admits (Ok u) = admit_all_moves (priority_of s) (controls_of s) v.mailbox
-    admits (Err r) = still_moves any v.mailbox v.mailbox refl refl
+    admits (Err r) = still_moves refl refl
 
-    by : (closed : Bool) → Moves (length (accepted_controls (Calls.Send s) closed (as_value Ticket (out closed).1))) (count_by orders (accepted_controls (Calls.Send s) closed (as_value Ticket (out closed).1))) 0 any v.mailbox (out closed).0.mailbox
-    by true = still_moves any v.mailbox v.mailbox refl refl
+    by : (closed : Bool) → KeepsIf (Calls.Send s) closed v (valued (if closed then (v, Ok 0) else Spec.after_send (Mail.send (priority_of s) (controls_of s) v.mailbox) v))
+    by true = still_moves refl refl
     by false = admits (may_send (priority_of s) (controls_of s) v.mailbox)
 
 pause_keeps : (signal : ℕ) (v : JobView) → Keeps (Calls.Pause signal) v (pause_value signal v)
-pause_keeps signal v = still_moves any v.mailbox (pause_value signal v).0.mailbox (grind (arith, common_steps)) (grind (arith, common_steps))
+pause_keeps signal v = still_moves (grind (arith, common_steps)) (grind (arith, common_steps))
 
 collect_keeps : (ticket : ℕ) (v : JobView) → Keeps (Calls.Collect ticket) v (collect_value (known_ticket ticket) v)
 collect_keeps ticket v = by (known_ticket ticket) refl
   where
-    stays : (w : JobView) → w.mailbox ≡ v.mailbox → Moves 0 0 0 (λ s. not (ticket == s)) v.mailbox w.mailbox
-    stays w e = still_moves (λ s. not (ticket == s)) v.mailbox w.mailbox (rw e refl) (rw e refl)
+    given : (x : Result Bool Refusal) → Moves 0 0 0 (λ s. not (ticket == s)) v.mailbox (Spec.collect_if x ticket v).0.mailbox
+    given (Ok true) = vacate_moves ticket v.mailbox
+    given (Ok false) = still_moves refl refl
+    given (Err r) = still_moves refl refl
 
-    done : (x : Result Bool Refusal) → Moves 0 0 0 (λ s. not (ticket == s)) v.mailbox (Spec.collect_if x ticket v).0.mailbox
-    done (Ok true) = vacate_moves ticket v.mailbox
-    done (Ok false) = stays v refl
-    done (Err r) = stays v refl
-
-    given : (zero : Bool) → Moves 0 0 0 (λ s. not (ticket == s)) v.mailbox (if zero then (v, Ok tt) else Spec.collect_if (Spec.is_done v.closed (mark_of ticket v.mailbox.tickets.table)) ticket v).0.mailbox
-    given true = stays v refl
-    given false = done (Spec.is_done v.closed (mark_of ticket v.mailbox.tickets.table))
+    unless : (zero : Bool) → Moves 0 0 0 (λ s. not (ticket == s)) v.mailbox (if zero then (v, Ok tt) else Spec.collect_if (Spec.is_done v.closed (mark_of ticket v.mailbox.tickets.table)) ticket v).0.mailbox
+    unless true = still_moves refl refl
+    unless false = given (Spec.is_done v.closed (mark_of ticket v.mailbox.tickets.table))
 
     by : (k : Result ℕ Refusal) → known_ticket ticket ≡ k → Moves 0 0 0 (λ s. not (ticket == s)) v.mailbox (collect_value k v).0.mailbox
     by (Ok t) e =
         let same : t ≡ ticket = grind (arith, nat_tests, e) in
-        rw same (given (ticket == 0))
-    by (Err r) e = stays v refl
+        rw same (unless (ticket == 0))
+    by (Err r) e = still_moves refl refl
 
 -- ALL CALLS
 
