@@ -49,7 +49,6 @@ use Rattle.drive.specs.Calls.{Makes, MakesStep, as_value, send_value}
 use Rattle.drive.specs.Cases.{records, MeetsCases}
 use Rattle.drive.specs.Laws.{job_at}
 use Rattle.drive.specs.Restarts.{RestartPends}
-use Rattle.drive.proofs.Fair.{fair}
 use Rattle.drive.proofs.Lawful.{goes, control_taken}
 use Rattle.drive.proofs.Steps.{accepted, step_cases}
 
@@ -142,7 +141,7 @@ cases by_host by_terminal =
       equal = λ kind now a d b free l e made. step_passes (may_at_clock by_host by_terminal now a free l e) made;
       full = λ a d b free l made.
           let full : d.answer ≡ Err Queue = ap (λ x. x.1) made.answers.answer ∙ grind (arith, nat_tests, free, l) in
-          (full, rw full at (fair by_host by_terminal (Calls.Send Sends.Restart) a d b made).refused);
+          (full, rw full at (goes by_host by_terminal (Calls.Send Sends.Restart) a d b made).fair.refused);
       not_yet = λ t a d b p e k made. (control_taken by_host by_terminal 519 a d b k made).early t p (omega (arith, e));
       now_due = λ t a d b p e k made.
           let due = (control_taken by_host by_terminal 520 a d b k made).due t p (omega (arith, e)) in

@@ -22,7 +22,6 @@ use Rattle.drive.specs.Calls.{Makes}
 use Rattle.drive.specs.Laws.{job_at, place_count, BooksFit, IsLawful, IsFair, AtEach, KeepsLaws}
 use Rattle.drive.specs.Restarts.{RestartPends, KeepsRestartLaws}
 use Rattle.drive.specs.Turns.{Turn, Linked, tried_in, ordered_in}
-use Rattle.drive.proofs.Fair.{fair}
 use Rattle.drive.proofs.Lawful.{holds, goes, control_taken}
 
 -- of a mailbox in order each ticket is in one place
@@ -64,7 +63,7 @@ module _ {H T : Type 0} (by_host : Host.Ghosts H) (by_terminal : Terminal.Ghosts
       record {
         lawful = λ f. lawful_from (owed_starts (job_at a).mailbox.timer) 0 0 cs a ts b h f (omega arith);
         from_fresh = λ c e r g. lawful_from 0 0 0 cs a ts b h (record { roster = r ∙ sym (ap children_of e); grants = g ∙ sym (ap (λ v. from_bool v.task.foreground.grant) e); holder = holds a.job }) (omega (arith, ap (λ v. owed_starts v.mailbox.timer) e));
-        fair = linked_so (Makes by_host by_terminal) (IsFair by_host by_terminal) (fair by_host by_terminal) cs a ts b h;
+        fair = linked_so (Makes by_host by_terminal) (IsFair by_host by_terminal) (λ c a d b made. (goes by_host by_terminal c a d b made).fair) cs a ts b h;
       }
 
   -- the step that takes the message of a timer leaves no start owed
