@@ -9,7 +9,7 @@ use Rattle.host.specs.declared.journal.CallKind.TheVariants.{Spawn, Wait, Kill}
 use Rattle.host.specs.declared.process.Host as Host
 use Rattle.host.specs.declared.terminal.Terminal as Terminal
 use Rattle.host.specs.Calls.{Call, Reply, Event}
-use Rattle.host.specs.Interaction.{Traces, IsAnswered}
+use Rattle.host.specs.Interaction.{Interaction, Traces, IsAnswered}
 use Rattle.host.specs.Journal.{journal, is_decisive, is_failure, reports_end, spawns_among}
 use Rattle.host.specs.State.{is_running}
 use Rattle.tickets.specs.declared.flag.Mark.TheVariants.{Held}
@@ -45,13 +45,12 @@ use Rattle.drive.specs.declared.calls.Done.{Done}
 use Rattle.drive.specs.declared.calls.Value.{Value}
 use Rattle.drive.specs.declared.calls.Value.TheVariants.{Ticket}
 use Rattle.drive.specs.Answers.{step_done}
-use Rattle.drive.specs.Calls.{Makes, as_value, send_value}
+use Rattle.drive.specs.Calls.{Makes, MakesStep, as_value, send_value}
 use Rattle.drive.specs.Cases.{records, MeetsCases}
 use Rattle.drive.specs.Laws.{job_at}
 use Rattle.drive.specs.Restarts.{RestartPends}
-use Rattle.drive.proofs.Fair.{fair}
 use Rattle.drive.proofs.Lawful.{goes, control_taken}
-use Rattle.drive.proofs.Steps.{accepted}
+use Rattle.drive.proofs.Steps.{accepted, step_cases}
 
 -- the only message that waits is taken
 take_only : (now : ℕ) (m : MailboxView) (c : ControlMessage) → m.timer ≡ None → m.queues.urgent ≡ [] → m.queues.high ≡ c ∷ [] → Mail.take now m ≡ Some (message_from c Sources.Queue, with_queues (record m.queues { high = [] }) m)
@@ -94,54 +93,30 @@ waited did now ticket v m answer free later none urgent high sent ok w w' p s ru
     whether true e q = cc e
     whether false e q = sends (may_send High (NextEnding ∷ []) v.mailbox) refl q
 
-module _ {H T : Type 0} (by_host : Host.Ghosts H) (by_terminal : Terminal.Ghosts T) where
-  -- SENDS
-
-  grace : (signal : ℕ) (a : Moment H T) (d : Done) (b : Moment H T) → (job_at a).closed ≡ false → signal ≤ 31 → Makes by_host by_terminal (Calls.Send (Sends.StopWithSignal signal 86400001)) a d b → d.answer ≡ Err Grace
-  grace signal a d b free l made = ap (λ x. x.1) made.answers.answer ∙ grind (arith, nat_tests, free)
-
-  day : (signal : ℕ) (a : Moment H T) (d : Done) (b : Moment H T) → signal ≤ 31 → has_room Normal 1 (job_at a).mailbox ≡ Ok tt → Makes by_host by_terminal (Calls.Send (Sends.StopWithSignal signal 86400000)) a d b → is_ok d.answer ≡ true
-  day signal a d b l room made = ap (λ x. is_ok x.1) made.answers.answer ∙ grind (arith, nat_tests, room)
-
-  full : (a : Moment H T) (d : Done) (b : Moment H T) → (job_at a).closed ≡ false → length (job_at a).mailbox.queues.normal ≡ 127 → Makes by_host by_terminal (Calls.Send Sends.Restart) a d b → d.answer ≡ Err Queue
-  full a d b free l made = ap (λ x. x.1) made.answers.answer ∙ grind (arith, nat_tests, free, l)
-
-  -- STEPS
-
+module _ {H T : Type 0} {by_host : Host.Ghosts H} {by_terminal : Terminal.Ghosts T} {tree : ℕ → JobView → Interaction StepEnd} {now : ℕ} {a b : Moment H T} {d : Done} where
   -- a step is refused as `may_step` says, and else accepted
-  step_refused : (kind : StepKind) (now : ℕ) (a : Moment H T) (d : Done) (b : Moment H T) → Makes by_host by_terminal (Calls.Step kind now) a d b → (x : Refusal) → may_step now (length a.sheet) (job_at a) ≡ Err x → d.answer ≡ Err x
-  step_refused kind now a d b made x e = by made.answer made.step made.does
-    where
-      by : (r : Result Stepped Refusal) → StepsOrRefuses by_host by_terminal (tree_of kind (by_terminal.book a.terminal).own) now a r b → d ≡ step_done r b.sheet → d.answer ≡ Err x
-      by (Err r) h z =
-          let same : r ≡ x = cc (h.0, e) in
-          rw (z, same) refl
-      by (Ok s) h z = absurd (cc (h.0, e))
+  step_refused : (x : Refusal) → may_step now (length a.sheet) (job_at a) ≡ Err x → MakesStep by_host by_terminal tree now a d b → d.answer ≡ Err x
+  step_refused x e made = step_cases (λ d b. d.answer ≡ Err x) (λ r may. cc (may, e)) (λ s may step. absurd (cc (may, e))) made
 
-  step_passes : (kind : StepKind) (now : ℕ) (a : Moment H T) (d : Done) (b : Moment H T) → Makes by_host by_terminal (Calls.Step kind now) a d b → may_step now (length a.sheet) (job_at a) ≡ Ok tt → is_ok d.answer ≡ true
-  step_passes kind now a d b made e = by made.answer made.step made.does
-    where
-      by : (r : Result Stepped Refusal) → StepsOrRefuses by_host by_terminal (tree_of kind (by_terminal.book a.terminal).own) now a r b → d ≡ step_done r b.sheet → is_ok d.answer ≡ true
-      by (Err r) h z = absurd (cc (h.0, e))
-      by (Ok s) h z = rw z refl
+  step_passes : may_step now (length a.sheet) (job_at a) ≡ Ok tt → MakesStep by_host by_terminal tree now a d b → is_ok d.answer ≡ true
+  step_passes e made = step_cases (λ d b. is_ok d.answer ≡ true) (λ r may. absurd (cc (may, e))) (λ s may step. refl) made
 
+module _ {H T : Type 0} (by_host : Host.Ghosts H) (by_terminal : Terminal.Ghosts T) where
   -- the clock is at most the latest time
-  timely : (a : Moment H T) → (job_at a).clock ≤ 2 ^ 62
-  timely a = a.job.timely
-
   may_at_clock : (now : ℕ) (a : Moment H T) → (job_at a).closed ≡ false → 8 ≤ length a.sheet → now ≡ (job_at a).clock → may_step now (length a.sheet) (job_at a) ≡ Ok tt
-  may_at_clock now a free l e = grind (arith, nat_tests, common_steps, free, l, e, timely a)
+  may_at_clock now a free l e =
+      let timely : (job_at a).clock ≤ 2 ^ 62 = a.job.timely in
+      grind (arith, nat_tests, common_steps, free, l, e, timely)
 
-  seven : (kind : StepKind) (now : ℕ) (a : Moment H T) (d : Done) (b : Moment H T) → (job_at a).closed ≡ false → length a.sheet ≡ 7 → Makes by_host by_terminal (Calls.Step kind now) a d b → d.answer ≡ Err Sheet
-  seven kind now a d b free l made = step_refused kind now a d b made Sheet (grind (arith, nat_tests, free, l))
-
-  earlier : (kind : StepKind) (now : ℕ) (a : Moment H T) (d : Done) (b : Moment H T) → (job_at a).closed ≡ false → 8 ≤ length a.sheet → now + 1 ≡ (job_at a).clock → Makes by_host by_terminal (Calls.Step kind now) a d b → d.answer ≡ Err Clock
-  earlier kind now a d b free l e made = step_refused kind now a d b made Clock (grind (arith, nat_tests, free, l, e))
-
-  -- THE END OF A CHILD WITHIN A GRACE
-
+  -- a child that ends within a grace
   within : (t : Timer) (now : ℕ) (a : Moment H T) (d : Done) (b : Moment H T) → RestartPends t (job_at a) → 1 ≤ count_by reports_end (records d b) → Makes by_host by_terminal (Calls.Step Kinds.Child now) a d b → d.tally.tried ≡ 1
-  within t now a d b p l made = by made.answer made.step made.does
+  within t now a d b p l made =
+      step_cases (λ d b. 1 ≤ count_by reports_end (records d b) → d.tally.tried ≡ 1) (λ r may l. absurd (grind (arith, common_steps, l)))
+      (λ s may step l.
+          let way = way_of Kinds.Child 0 now a b s step in
+          let wrote = records_are step.conducts in
+          ap spawns_among wrote ∙ way.1.starts ∙ one _ (found_end way.0.1) restart (omega (arith, way.1.ends, rw wrote at l)))
+      made l
     where
       restart : is_some (memory (job_at a).mailbox.timer) ≡ true
       restart = ap (λ k. is_some (memory k)) p.0 ∙ ap (λ end. is_some (memory_of end t.ticket)) p.1
@@ -151,54 +126,37 @@ module _ {H T : Type 0} (by_host : Host.Ghosts H) (by_terminal : Terminal.Ghosts
       one true false e k = absurd (omega (arith, k))
       one false f e k = cc e
 
-      by : (r : Result Stepped Refusal) → StepsOrRefuses by_host by_terminal child_step now a r b → d ≡ step_done r b.sheet → d.tally.tried ≡ 1
-      by (Err r) h z = absurd (grind (arith, common_steps, l, z))
-      by (Ok s) h z =
-          let way = way_of Kinds.Child 0 now a b s h.1 in
-          let wrote : records d b ≡ journal h.1.conducts.trace = rw z (records_are h.1.conducts) in
-          ap (λ x. x.tally.tried) z ∙ ap spawns_among (records_are h.1.conducts) ∙ way.1.starts ∙ one _ (found_end way.0.1) restart (omega (arith, way.1.ends, rw wrote at l))
-
-  -- TO WAIT
-
-  waits : (ticket now : ℕ) (a : Moment H T) (d : Done) (m : Moment H T) (e : Done) (b : Moment H T) → (job_at a).closed ≡ false → (job_at a).mailbox.timer ≡ None → (job_at a).mailbox.queues.urgent ≡ [] → (job_at a).mailbox.queues.high ≡ [] → Makes by_host by_terminal (Calls.Send Sends.ToWait) a d m → d.answer ≡ Ok (Ticket ticket) → Makes by_host by_terminal (Calls.Step Kinds.Control now) m e b → is_ok e.answer ≡ true → look ticket (job_at b) ≡ Ok (not (is_running (job_at a).task.state))
-  waits ticket now a d m e b free none urgent high sent answer made k =
-      let step = accepted by_host by_terminal Kinds.Control now m e b made k in
-      let run = step.2.conducts in
-      waited (IsAnswered by_host by_terminal) now ticket (job_at a) (job_at m) d.answer free (λ s. (a.job.in_order free).later s) none urgent high sent.answers.answer answer _ _ run.trace (step_end b.job step.0) run.traces
-
-  -- PAST THE DEADLINE
-
-  next_end : (t : Timer) (now later : ℕ) (a : Moment H T) (d : Done) (m : Moment H T) (e : Done) (b : Moment H T) → RestartPends t (job_at a) → t.deadline ≤ now → is_ok d.answer ≡ true → Makes by_host by_terminal (Calls.Step Kinds.Control now) a d m → Makes by_host by_terminal (Calls.Step Kinds.Child later) m e b → e.tally.tried ≡ 0
-  next_end t now later a d m e b p l k made ends =
-      let none = ap (λ u. owed_starts u) ((control_taken by_host by_terminal now a d m k made).due t p.0 l).0 in
-      omega (arith, none, (goes by_host by_terminal (Calls.Step Kinds.Child later) m e b ends).starts, by ends.answer ends.step ends.does)
-    where
-      -- a child step takes no order
-      by : (r : Result Stepped Refusal) → StepsOrRefuses by_host by_terminal child_step later m r b → e ≡ step_done r b.sheet → e.tally.ordered ≡ 0
-      by (Err r) h z = rw z refl
-      by (Ok s) h z = ap (λ x. x.tally.ordered) z ∙ ap (λ x. from_bool x.ordered) (way_of Kinds.Child 0 later m b s h.1).2
-
-  past : (t : Timer) (now : ℕ) (a : Moment H T) (d : Done) (b : Moment H T) → RestartPends t (job_at a) → t.deadline ≤ now → is_running (job_at a).task.state ≡ true → is_ok d.answer ≡ true → count_by is_failure (records d b) ≡ 0 → Makes by_host by_terminal (Calls.Step Kinds.Control now) a d b → map (λ r. r.call) (filter is_decisive (records d b)) ≡ Kill ∷ Wait ∷ Spawn ∷ []
-  past t now a d b p l running k none made =
-      let step = accepted by_host by_terminal Kinds.Control now a d b made k in
-      let wrote : records d b ≡ journal step.2.conducts.trace = ap (λ x. records x b) step.3 ∙ records_are step.2.conducts in
-      let way = continue_way now t (job_at a) _ (step_end b.job step.0) p.0 p.1 l (way_of Kinds.Control 0 now a b step.0 step.2) in
-      ap (λ rs. map (λ r. r.call) (filter is_decisive rs)) wrote ∙ way.1.continued.1 running (ap (λ rs. count_by is_failure rs) (sym wrote) ∙ none)
+  -- a child step takes no order
+  child_orders : (now : ℕ) (a : Moment H T) (d : Done) (b : Moment H T) → Makes by_host by_terminal (Calls.Step Kinds.Child now) a d b → d.tally.ordered ≡ 0
+  child_orders now a d b made = step_cases (λ d b. d.tally.ordered ≡ 0) (λ r may. refl) (λ s may step. ap (λ x. from_bool x.ordered) (way_of Kinds.Child 0 now a b s step).2) made
 
 pub cases : {H T : Type 0} (by_host : Host.Ghosts H) (by_terminal : Terminal.Ghosts T) → MeetsCases by_host by_terminal
 cases by_host by_terminal =
     record {
-      grace = grace by_host by_terminal;
-      day = day by_host by_terminal;
-      seven = seven by_host by_terminal;
-      eight = λ kind now a d b free l e made. step_passes by_host by_terminal kind now a d b made (may_at_clock by_host by_terminal now a free (omega (arith, l)) e);
-      earlier = earlier by_host by_terminal;
-      equal = λ kind now a d b free l e made. step_passes by_host by_terminal kind now a d b made (may_at_clock by_host by_terminal now a free l e);
-      full = λ a d b free l made. let r = full by_host by_terminal a d b free l made in (r, rw r at (fair by_host by_terminal (Calls.Send Sends.Restart) a d b made).refused);
+      grace = λ signal a d b free l made. ap (λ x. x.1) made.answers.answer ∙ grind (arith, nat_tests, free);
+      day = λ signal a d b l room made. ap (λ x. is_ok x.1) made.answers.answer ∙ grind (arith, nat_tests, room);
+      seven = λ kind now a d b free l made. step_refused Sheet (grind (arith, nat_tests, free, l)) made;
+      eight = λ kind now a d b free l e made. step_passes (may_at_clock by_host by_terminal now a free (omega (arith, l)) e) made;
+      earlier = λ kind now a d b free l e made. step_refused Clock (grind (arith, nat_tests, free, l, e)) made;
+      equal = λ kind now a d b free l e made. step_passes (may_at_clock by_host by_terminal now a free l e) made;
+      full = λ a d b free l made.
+          let full : d.answer ≡ Err Queue = ap (λ x. x.1) made.answers.answer ∙ grind (arith, nat_tests, free, l) in
+          (full, rw full at (goes by_host by_terminal (Calls.Send Sends.Restart) a d b made).fair.refused);
       not_yet = λ t a d b p e k made. (control_taken by_host by_terminal 519 a d b k made).early t p (omega (arith, e));
-      now_due = λ t a d b p e k made. let due = (control_taken by_host by_terminal 520 a d b k made).due t p (omega (arith, e)) in (due.0, ap (λ q. q.urgent) due.1);
-      waits = waits by_host by_terminal;
+      now_due = λ t a d b p e k made.
+          let due = (control_taken by_host by_terminal 520 a d b k made).due t p (omega (arith, e)) in
+          (due.0, ap (λ q. q.urgent) due.1);
+      waits = λ ticket now a d m e b free none urgent high sent answer made k.
+          let step = accepted made k in
+          waited (IsAnswered by_host by_terminal) now ticket (job_at a) (job_at m) d.answer free (a.job.in_order free).later none urgent high
+          sent.answers.answer answer _ _ step.2.conducts.trace (step_end b.job step.0) step.2.conducts.traces;
       within = within by_host by_terminal;
-      past = past by_host by_terminal;
-      next_end = next_end by_host by_terminal;
+      past = λ t now a d b p l running k none made.
+          let step = accepted made k in
+          let wrote : records d b ≡ journal step.2.conducts.trace = ap (λ x. records x b) step.3 ∙ records_are step.2.conducts in
+          let way = continue_way now t (job_at a) _ (step_end b.job step.0) p.0 p.1 l (way_of Kinds.Control 0 now a b step.0 step.2) in
+          ap (λ rs. map (λ r. r.call) (filter is_decisive rs)) wrote ∙ way.1.continued.1 running (ap (λ rs. count_by is_failure rs) (sym wrote) ∙ none);
+      next_end = λ t now later a d m e b p l k made ends.
+          let none = ap (λ u. owed_starts u) ((control_taken by_host by_terminal now a d m k made).due t p.0 l).0 in
+          omega (arith, none, (goes by_host by_terminal (Calls.Step Kinds.Child later) m e b ends).starts, child_orders by_host by_terminal later m e b ends);
     }

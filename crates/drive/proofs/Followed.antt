@@ -12,8 +12,8 @@ use Rattle.supervisor.specs.declared.answers.StepKind.{StepKind}
 use Rattle.supervisor.specs.declared.answers.Stepped.{Stepped}
 use Rattle.supervisor.specs.declared.errors.Refusal.{Refusal}
 use Rattle.supervisor.specs.Job as Job
-use Rattle.supervisor.specs.Job.{JobView, tree_of}
-use Rattle.supervisor.specs.Steps.{Moment, job_view, world_at, step_end, StepsOrRefuses}
+use Rattle.supervisor.specs.Job.{JobView, may_step, tree_of}
+use Rattle.supervisor.specs.Steps.{Moment, job_view, step_end, Steps}
 use Rattle.supervisor.proofs.Steps.{not_closed}
 use Rattle.drive.specs.declared.calls.Call.{Call}
 use Rattle.drive.specs.declared.calls.Call.TheVariants as Calls
@@ -26,12 +26,14 @@ use Rattle.drive.specs.Original as Original
 use Rattle.drive.specs.Original.{Amendments, all_amendments, no_amendments}
 use Rattle.drive.specs.Turns.{Turn, Linked}
 use Rattle.drive.proofs.Laws.{linked_so, linked_first}
+use Rattle.drive.proofs.Flagged.{agree}
 use Rattle.drive.proofs.Originals.{branch_comes}
+use Rattle.drive.proofs.Steps.{step_cases}
 use Rattle.drive.proofs.Sent.{send_agrees, pause_agrees, collect_agrees}
 
 -- a fresh job, and a fresh original
 fresh_agrees : (c : Command) → Agrees (Job.fresh_job c) (Original.fresh_original c)
-fresh_agrees c = record { command = refl; state = refl; previous = refl; handler = refl; hook = refl; way = refl; paused = refl; pauses = refl; watch = refl; grant = refl; normal = refl; high = refl; urgent = refl; timer = refl; memory = refl; ending = refl; issued = refl; closed = refl; later = λ s l. refl; raised = λ e s l k. absurd (omega (arith, l, k)) }
+fresh_agrees c = agree (record { later = λ s l. refl; same = λ e s l k. absurd (omega (arith, l, k)) })
 
 module _ {H T : Type 0} (by_host : Host.Ghosts H) (by_terminal : Terminal.Ghosts T) where
   -- the original does its part, and agrees afterwards
@@ -49,24 +51,18 @@ module _ {H T : Type 0} (by_host : Host.Ghosts H) (by_terminal : Terminal.Ghosts
       by (Err r) e u = (o, refl, rw u agrees)
 
   step_comes : (am : Amendments) (kind : StepKind) (now : ℕ) (a : Moment H T) (o : Original.Original) (d : Done) (b : Moment H T) → Agrees (job_view a.job) o → IsUntouched by_host by_terminal am (Calls.Step kind now) a d b → Makes by_host by_terminal (Calls.Step kind now) a d b → Comes am (Calls.Step kind now) a o d b
-  step_comes am kind now a o d b agrees untouched made = by made.answer made.step made.does
+  step_comes am kind now a o d b agrees untouched made = step_cases (λ d b. IsUntouched by_host by_terminal am (Calls.Step kind now) a d b → Comes am (Calls.Step kind now) a o d b) (λ r may u. (o, refl, agrees)) by made untouched
     where
-      by : (r : Result Stepped Refusal) → StepsOrRefuses by_host by_terminal (tree_of kind (own by_host by_terminal a)) now a r b → d ≡ step_done r b.sheet → Comes am (Calls.Step kind now) a o d b
-      by (Err r) h e = rw (e, h.1) (o, refl, agrees)
-      by (Ok s) h e =
-          let v = job_view a.job in
-          let run = h.1.conducts in
-          let answered : is_ok d.answer ≡ true = rw e refl in
-          let records : take d.records b.sheet ≡ journal run.trace = rw e (records_are run) in
-          let apart : IsApart am kind now v (journal run.trace) = subst (λ (rs : List Record). IsApart am kind now v rs) records (untouched answered) in
-          let free = not_closed now (length a.sheet) v h.0 in
-          let o' = branch_comes (IsAnswered by_host by_terminal) am now v free a.job.granted (a.job.in_order free) kind (own by_host by_terminal a) o agrees (world_at a) (world_at b) run.trace (step_end b.job s) apart run.traces in
-          let same : MakesSameCalls by_host by_terminal am kind now a o d b o'.0 = record { calls = run.trace; end = step_end b.job s; made = run.traces; left = refl; recorded = records; original = o'.1 } in
-          (o'.0, granted d.answer answered o'.0 same, o'.2)
-        where
-          granted : (r : Result Value Refusal) → is_ok r ≡ true → (o' : Original.Original) → MakesSameCalls by_host by_terminal am kind now a o d b o' → DoesIf by_host by_terminal r (MakesSameCalls by_host by_terminal am kind now a o d b o') o o'
-          granted (Ok x) k o' same = same
-          granted (Err r) k o' same = cc k
+      v : JobView
+      v = job_view a.job
+
+      by : (s : Stepped) → may_step now (length a.sheet) v ≡ Ok tt → Steps by_host by_terminal (tree_of kind (own by_host by_terminal a) now v) a s b → IsUntouched by_host by_terminal am (Calls.Step kind now) a (step_done (Ok s) b.sheet) b → Comes am (Calls.Step kind now) a o (step_done (Ok s) b.sheet) b
+      by s may k u =
+          let run = k.conducts in
+          let apart : IsApart am kind now v (journal run.trace) = subst (λ (rs : List Record). IsApart am kind now v rs) (records_are run) (u refl) in
+          let free = not_closed now (length a.sheet) v may in
+          let o' = branch_comes (IsAnswered by_host by_terminal) am now v free a.job.granted (a.job.in_order free) kind (own by_host by_terminal a) o agrees _ _ run.trace (step_end b.job s) apart run.traces in
+          (o'.0, record { calls = run.trace; end = step_end b.job s; made = run.traces; left = refl; recorded = records_are run; original = o'.1 }, o'.2)
 
   comes : (am : Amendments) (c : Call) (a : Moment H T) (o : Original.Original) (d : Done) (b : Moment H T) → Agrees (job_view a.job) o → IsUntouched by_host by_terminal am c a d b → Makes by_host by_terminal c a d b → Comes am c a o d b
   comes am (Calls.Send s) a o d b agrees u made = quiet_comes am (Calls.Send s) (send_value s) (Original.send s) a o d b agrees (send_agrees s (job_view a.job) o (λ free. (a.job.in_order free).later) agrees) made (λ o' e. e)

@@ -39,7 +39,7 @@ written_more rs xs i y e l = grind (arith, common_steps, drop_more xs i (Ok Noth
 module _ {H T : Type 0} (by_host : Host.Ghosts H) (by_terminal : Terminal.Ghosts T) where
   linked-spawns : (cs : List Call) (a : Moment H T) (ts : List (Turn (Moment H T))) (b : Moment H T) → Linked (Makes by_host by_terminal) cs a ts b → (by_host.book b.host).spawns % 2 ^ 64 ≡ ((by_host.book a.host).spawns + tried_in ts) % 2 ^ 64
   linked-spawns [] a ts b h = grind arith
-  linked-spawns (c ∷ cs) a ts b h = grind (arith, common_steps, linked-spawns cs h.0.at h.1 b h.4, makes-spawns by_host by_terminal c a h.0.did h.0.at h.3)
+  linked-spawns (c ∷ cs) a ts b h = grind (arith, common_steps, linked-spawns cs h.0.at h.1 b h.4, makes-spawns by_host by_terminal a c h.0.did h.0.at h.3)
 
   -- the first i calls were made, with at most one start and one order each
   pub record SoFar (calls : List Call) (i : ℕ) (a : Moment H T) (xs : List (Result Value Refusal)) (tried ordered : ℕ) (b : Moment H T) (ys : List (Result Value Refusal)) : Type 0 where
@@ -56,7 +56,7 @@ module _ {H T : Type 0} (by_host : Host.Ghosts H) (by_terminal : Terminal.Ghosts
 
   pub one_more : {calls : List Call} {i : ℕ} {a : Moment H T} {xs : List (Result Value Refusal)} {m n : ℕ} {b : Moment H T} {ys : List (Result Value Refusal)} (z : Call) (t : Turn (Moment H T)) → i < length calls → i < length xs → SoFar calls i a xs m n b ys → Makes by_host by_terminal (get_or calls i z) b t.did t.at → SoFar calls (i + 1) a xs (m + t.did.tally.tried) (n + t.did.tally.ordered) t.at (set ys i t.did.answer)
   one_more {calls} {i} {a} {xs} {m} {n} {b} {ys} z t l k h r =
-      let few : (t.did.tally.tried ≤ 1) × (t.did.tally.ordered ≤ 1) = makes_few by_host by_terminal (get_or calls i z) b t.did t.at r in
+      let few : (t.did.tally.tried ≤ 1) × (t.did.tally.ordered ≤ 1) = makes_few by_host by_terminal b (get_or calls i z) t.did t.at r in
       let count : length (answers_of h.turns) ≡ i = omega (arith, linked-length (Makes by_host by_terminal) (take i calls) a h.turns b h.linked, length-take i calls) in
       record {
         turns = h.turns ++ t ∷ [];

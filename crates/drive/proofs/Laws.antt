@@ -1,5 +1,5 @@
 -- The laws of a run, from those of its calls.
-use Rattle.std.proofs.Common.{◌≡◌, ℕ, ◌+◌, ◌≤◌, Bool, true, false, is_ok, is_some, Ok, Err, Result, List, [], ◌∷◌, length, sym, Option, ap, ◌∙◌, arith}
+use Rattle.std.proofs.Common.{◌≡◌, ℕ, ◌+◌, ◌≤◌, true, is_ok, is_some, List, [], ◌∷◌, sym, Option, ap, ◌∙◌, arith}
 use Rattle.std.proofs.lemmas.Grind.{common_steps}
 use Rattle.host.specs.declared.process.Host as Host
 use Rattle.host.specs.declared.terminal.Terminal as Terminal
@@ -22,7 +22,6 @@ use Rattle.drive.specs.Calls.{Makes}
 use Rattle.drive.specs.Laws.{job_at, place_count, BooksFit, IsLawful, IsFair, AtEach, KeepsLaws}
 use Rattle.drive.specs.Restarts.{RestartPends, KeepsRestartLaws}
 use Rattle.drive.specs.Turns.{Turn, Linked, tried_in, ordered_in}
-use Rattle.drive.proofs.Fair.{fair}
 use Rattle.drive.proofs.Lawful.{holds, goes, control_taken}
 
 -- of a mailbox in order each ticket is in one place
@@ -64,13 +63,12 @@ module _ {H T : Type 0} (by_host : Host.Ghosts H) (by_terminal : Terminal.Ghosts
       record {
         lawful = λ f. lawful_from (owed_starts (job_at a).mailbox.timer) 0 0 cs a ts b h f (omega arith);
         from_fresh = λ c e r g. lawful_from 0 0 0 cs a ts b h (record { roster = r ∙ sym (ap children_of e); grants = g ∙ sym (ap (λ v. from_bool v.task.foreground.grant) e); holder = holds a.job }) (omega (arith, ap (λ v. owed_starts v.mailbox.timer) e));
-        fair = linked_so (Makes by_host by_terminal) (IsFair by_host by_terminal) (fair by_host by_terminal) cs a ts b h;
+        fair = linked_so (Makes by_host by_terminal) (IsFair by_host by_terminal) (λ c a d b made. (goes by_host by_terminal c a d b made).fair) cs a ts b h;
       }
 
   -- the step that takes the message of a timer leaves no start owed
   none_owed : (t : Timer) (time : ℕ) (a : Moment H T) (d : Done) (b : Moment H T) → Pends t (job_at a) → t.deadline ≤ time → is_ok d.answer ≡ true → Makes by_host by_terminal (Step Control time) a d b → owed_starts (job_at b).mailbox.timer ≡ 0
   none_owed t time a d b p l k made = ap owed_starts ((control_taken by_host by_terminal time a d b k made).due t p l).0
-
 
   pub restarts : (cs : List Call) (a : Moment H T) (ts : List (Turn (Moment H T))) (b : Moment H T) → Linked (Makes by_host by_terminal) cs a ts b → KeepsRestartLaws cs a ts
   restarts cs a ts b h =

@@ -2,7 +2,6 @@
 pub mod Arms
 pub mod Cases
 pub mod Counts
-pub mod Fair
 pub mod Flagged
 pub mod Followed
 pub mod Histories

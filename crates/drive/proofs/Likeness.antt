@@ -1,5 +1,5 @@
 -- Trees that go on alike, letting go apart.
-use Rattle.std.proofs.Common.{◌≡◌, List, [], ◌∷◌, refl}
+use Rattle.std.proofs.Common.{◌≡◌, Bool, true, false, if◌then◌else◌, List, [], ◌∷◌, refl}
 use Rattle.std.specs.Prelude.{⊤}
 use Rattle.host.specs.Calls.{Call, Reply, Event, let_go, to_host}
 use Rattle.host.specs.Interaction.{Interaction, done, ask, bind, Traces}
@@ -23,6 +23,11 @@ module _ (P : (c : Call) → Reply c → Type 0) where
   like_made L R (done x) u g h k = (h.0, h.1, k x h.0 h.2)
   like_made L R (ask (to_host (let_go child)) j) u g h k = like_made L R (j tt) u g h k
   like_made L R (ask c j) u g h k = (h.0, h.1, λ a p. like_made L R (j a) (h.0 a) g (h.2 a p) k)
+
+  -- a choice that both trees make
+  pub like_if : {A B : Type 0} (R : A → B → Type 0) (b : Bool) (t v : Interaction A) (u w : Interaction B) → Like R t u → Like R v w → Like R (if b then t else v) (if b then u else w)
+  like_if R true t v u w h k = h
+  like_if R false t v u w h k = k
 
   -- it holds of the answers of a trace
   abbrev pub Spoken : List Event → Type 0
