@@ -27,7 +27,7 @@ abbrev pub as_value : {A : Type 0} → (A → Value) → Result A Refusal → Re
 as_value f r = result_map_both f (λ refusal. refusal) r
 
 abbrev pub send_value : Send → JobView → JobView × Result Value Refusal
-send_value s v = let sent = send s v in (sent.0, as_value Ticket sent.1)
+send_value s v = let sent = send s v in (sent.0, as_value (λ serial. Ticket (record { serial = serial })) sent.1)
 
 -- the look at a ticket, if it is known
 abbrev pub look_value : Result ℕ Refusal → JobView → Result Value Refusal

@@ -7,7 +7,7 @@ use Rattle.drive.specs.declared.calls.Value.TheVariants.{Ticket, Progress, IsDon
 
 -- a ticket its serial, a step's progress 0, 1 or 2, a ticket that is done 1, else 0
 abbrev pub value_number : Value → ℕ
-value_number (Ticket serial) = serial
+value_number (Ticket ticket) = ticket.serial
 value_number (Progress progress) = progress_number progress
 value_number (IsDone done) = from_bool done
 value_number Nothing = 0

@@ -56,7 +56,7 @@ pub fn known(number: u64) -> Result<u32, Refusal>
 }
 
 fn known_ticket(number: u64) -> Result<Ticket, Refusal>
-    ensures { result ≡ Calls.known_ticket number }
+    ensures { Steps.by_serial result ≡ Calls.known_ticket number }
 {
     Ok(known(number)?.into())
 }

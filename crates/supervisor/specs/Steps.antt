@@ -9,6 +9,7 @@ use Rattle.host.specs.Books.{host_along, terminal_along, spawns_in}
 use Rattle.supervisor.specs.declared.errors.Refusal.{Refusal}
 use Rattle.supervisor.specs.declared.answers.Stepped.{Stepped}
 use Rattle.supervisor.specs.declared.job.Job.{Job}
+use Rattle.tickets.specs.declared.ticket.Ticket.{Ticket}
 use Rattle.task.specs.Conducts.{Conducts}
 use Rattle.supervisor.specs.Job.{JobView, StepEnd, may_step}
 use Rattle.task.specs.View.{task_view}
@@ -20,6 +21,10 @@ job_view j = record { closed = j.closed; task = task_view j.task; mailbox = mail
 -- a job that was made, as its view
 abbrev pub view_made : Result Job Refusal → Result JobView Refusal
 view_made r = result_map_both job_view (λ refusal. refusal) r
+
+-- a send's answer, with the ticket by its serial
+abbrev pub by_serial : Result Ticket Refusal → Result ℕ Refusal
+by_serial r = result_map_both (λ ticket. ticket.serial) (λ refusal. refusal) r
 
 -- The call f of the job j was answered r, and left the job j'; where it was refused nothing changed.
 pub record Answers {A : Type 0} (f : JobView → JobView × Result A Refusal) (j : Job) (r : Result A Refusal) (j' : Job) : Type 0 where

@@ -14,14 +14,13 @@ use ring::queue::Queue;
 use task::messages::{Control, ControlMessage, GraceEnd};
 use task::task::{Outcome, PollOutcome};
 use tickets::flag::{PLACES, Tickets};
-use tickets::ticket::Ticket;
 
 #[derive(Clone, Copy)]
 pub struct Mailbox {
     pub queues: Queues,
     pub timer: Option<Timer>,
     // The ending list: the tickets that are raised when the child ends.
-    pub ending: Queue<Ticket, PLACES>,
+    pub ending: Queue<u32, PLACES>,
     pub tickets: Tickets,
 }
 
@@ -65,7 +64,7 @@ impl Mailbox {
     }
 
     // Gives a control the next ticket, held or not, and adds it to its queue.
-    fn admit(&mut self, priority: Priority, control: Control, held: bool) -> Ticket
+    fn admit(&mut self, priority: Priority, control: Control, held: bool) -> u32
         requires queue { Mail.queue_room priority 1 (mailbox_view self.old).queues ≡ true }
         requires ticket { Mail.serial_room 1 (mailbox_view self.old) ≡ true }
         ensures ticket { result ≡ (mailbox_view self.old).tickets.issued + 1 }
@@ -80,7 +79,7 @@ impl Mailbox {
 
     // Gives each control a ticket, the last one a held one, which is answered, and adds them to their queue; or refuses all, for
     // what they carry, or where the queue or the ticket table lacks room.
-    pub(crate) fn send(&mut self, priority: Priority, controls: Controls) -> Result<Ticket, Refusal>
+    pub(crate) fn send(&mut self, priority: Priority, controls: Controls) -> Result<u32, Refusal>
         ensures answer { (mailbox_view self.new, result) ≡ Mail.send priority (list_of controls)
             (mailbox_view self.old) }
         ensures unchanged { OnErr result (self.new ≡ self.old) }
@@ -130,7 +129,7 @@ impl Mailbox {
     }
 
     // The restart memory: the ticket of the restart that the child's end continues.
-    pub(crate) fn memory(&self) -> Option<Ticket>
+    pub(crate) fn memory(&self) -> Option<u32>
         ensures { result ≡ Timers.memory (mailbox_view self.now).timer }
     {
         match self.timer? {
@@ -144,7 +143,7 @@ impl Mailbox {
     }
 
     // Frees the place of a ticket.
-    pub(crate) fn vacate(&mut self, ticket: Ticket)
+    pub(crate) fn vacate(&mut self, ticket: u32)
         ensures { mailbox_view self.new ≡ Mail.vacate_ticket ticket (mailbox_view self.old) }
     {
         self.tickets.vacate(ticket);
@@ -163,7 +162,7 @@ impl Mailbox {
     }
 
     // Sees to the ticket of a control that was carried out at this time.
-    pub(crate) fn settle(&mut self, time: u64, outcome: Outcome, ticket: Ticket)
+    pub(crate) fn settle(&mut self, time: u64, outcome: Outcome, ticket: u32)
         requires time { time ≤ 2 ^ 62 }
         requires room { length (mailbox_view self.old).ending < 256 }
         ensures { mailbox_view self.new ≡ Mail.settle time outcome ticket (mailbox_view self.old) }

@@ -1,6 +1,6 @@
 // Examples of what a job answers, on a host that has no room for a child.
-ghost use Rattle.std.specs.Prelude.{◌≡◌, [], Err};
-ghost use Rattle.host.specs.Books.{HostKeeps, TerminalKeeps, next_count};
+ghost use Rattle.std.specs.Prelude.{◌≡◌, Err};
+ghost use Rattle.host.specs.Books.{HostKeeps, TerminalKeeps, next_count, no_child};
 ghost use Rattle.host.specs.Fault.{fault};
 ghost use Rattle.std.proofs.Common.{rules};
 
@@ -16,6 +16,7 @@ use host::terminal::Terminal;
 use std::num::Wrapping;
 use std::test::Fail;
 use task::messages::Control;
+use tickets::ticket::Ticket;
 
 // A host whose roster holds no child: each spawn faults with 11, each call that names a child with 10.
 #[derive(Drop)]
@@ -33,7 +34,7 @@ impl NoRoom {
     }
 
     // A counted call that names a child, none of which is on the roster.
-    fn no_child<A>(&mut self) -> Result<A, Fault>
+    fn unknown<A>(&mut self) -> Result<A, Fault>
         ensures answer { result ≡ Err (fault 10) }
         ensures counted { self.new
             ≡ record self.old { served = record { 0 = next_count self.old.served.0 } } }
@@ -48,11 +49,11 @@ impl Host for NoRoom {
 
     ghost MOST = { 0 };
 
-    ghost book = { λ h. record { roster = []; served = h.served.0; spawns = h.spawns.0 } };
+    ghost book = { λ h. record { roster = no_child; served = h.served.0; spawns = h.spawns.0 } };
 
     ghost did = { λ h c a k. HostKeeps 0
-        (record { roster = []; served = h.served.0; spawns = h.spawns.0 }) c a
-        (record { roster = []; served = k.served.0; spawns = k.spawns.0 }) };
+        (record { roster = no_child; served = h.served.0; spawns = h.spawns.0 }) c a
+        (record { roster = no_child; served = k.served.0; spawns = k.spawns.0 }) };
 
     ghost keeps = { Prim.search rules };
 
@@ -75,23 +76,23 @@ impl Host for NoRoom {
     }
 
     fn poll(&mut self, _child: u32) -> Result<Option<ProcessEnd>, Fault> {
-        self.no_child()
+        self.unknown()
     }
 
     fn wait(&mut self, _child: u32) -> Result<ProcessEnd, Fault> {
-        self.no_child()
+        self.unknown()
     }
 
     fn kill(&mut self, _child: u32) -> Result<(), Fault> {
-        self.no_child()
+        self.unknown()
     }
 
     fn signal(&mut self, _child: u32, _signal: u8) -> Result<(), Fault> {
-        self.no_child()
+        self.unknown()
     }
 
     fn cont(&mut self, _child: u32) -> Result<(), Fault> {
-        self.no_child()
+        self.unknown()
     }
 
     fn let_go(&mut self, _child: u32) {
@@ -184,10 +185,10 @@ fn a_job_is_made_of_fitting_numbers(rt: HostRuntime) {
 fn a_full_queue_takes_no_more(rt: HostRuntime) -> Result<(), Fail> {
     let mut job = Job::new(1, 0)?;
     for i in 0..128u32 {
-        assert_eq!(rt; job.start(), Ok(i + 1));
+        assert_eq!(rt; job.start(), Ok(Ticket::from(i + 1)));
     }
     assert_eq!(rt; job.start(), Err(Refusal::Queue));
-    assert_eq!(rt; job.to_wait(), Ok(129));
+    assert_eq!(rt; job.to_wait(), Ok(Ticket::from(129)));
     Ok(())
 }
 
@@ -201,10 +202,10 @@ fn a_full_table_gives_no_more_tickets(rt: HostRuntime) -> Result<(), Fail> {
     for _ in 0..127 {
         assert!(rt; job.start().is_ok());
     }
-    assert_eq!(rt; job.to_wait(), Ok(256));
+    assert_eq!(rt; job.to_wait(), Ok(Ticket::from(256)));
     assert_eq!(rt; job.start(), Err(Refusal::Tickets));
-    assert!(rt; job.collect(1).is_ok());
-    assert_eq!(rt; job.start(), Ok(257));
+    assert!(rt; job.collect(Ticket::from(1)).is_ok());
+    assert_eq!(rt; job.start(), Ok(Ticket::from(257)));
     Ok(())
 }
 
@@ -245,17 +246,17 @@ fn the_clock_does_not_go_back(rt: HostRuntime) -> Result<(), Fail> {
 #[test]
 fn a_ticket_is_done_once_it_is_raised_and_collected_once(rt: HostRuntime) -> Result<(), Fail> {
     let mut job = Job::new(1, 0)?;
-    assert_eq!(rt; job.look(1), Err(Refusal::Unknown));
-    assert_eq!(rt; job.start(), Ok(1));
-    assert_eq!(rt; job.look(1), Ok(false));
-    assert_eq!(rt; job.collect(1), Err(Refusal::Waiting));
+    assert_eq!(rt; job.look(Ticket::from(1)), Err(Refusal::Unknown));
+    assert_eq!(rt; job.start(), Ok(Ticket::from(1)));
+    assert_eq!(rt; job.look(Ticket::from(1)), Ok(false));
+    assert_eq!(rt; job.collect(Ticket::from(1)), Err(Refusal::Waiting));
     assert!(rt; step(&mut job, 0).is_ok());
-    assert_eq!(rt; job.look(1), Ok(true));
-    assert!(rt; job.collect(1).is_ok());
-    assert_eq!(rt; job.look(1), Err(Refusal::Unknown));
-    assert_eq!(rt; job.collect(1), Err(Refusal::Unknown));
-    assert_eq!(rt; job.look(0), Ok(true));
-    assert!(rt; job.collect(0).is_ok());
+    assert_eq!(rt; job.look(Ticket::from(1)), Ok(true));
+    assert!(rt; job.collect(Ticket::from(1)).is_ok());
+    assert_eq!(rt; job.look(Ticket::from(1)), Err(Refusal::Unknown));
+    assert_eq!(rt; job.collect(Ticket::from(1)), Err(Refusal::Unknown));
+    assert_eq!(rt; job.look(Ticket::CANCELLED), Ok(true));
+    assert!(rt; job.collect(Ticket::CANCELLED).is_ok());
     Ok(())
 }
 

@@ -2,7 +2,6 @@
 ghost use Rattle.std.specs.Prelude.{◌≡◌};
 ghost use Rattle.task.specs.Messages.{control_at_end, orders};
 
-use tickets::ticket::Ticket;
 
 // What a job can be told to do. A grace is in milliseconds; routine, error handler, spawn hook and way of spawning are numbers. The
 // default fills slots of a queue that no message has.
@@ -66,5 +65,5 @@ impl From<GraceEnd> for Control {
 #[derive(Clone, Copy, Default)]
 pub struct ControlMessage {
     pub control: Control,
-    pub ticket: Ticket,
+    pub ticket: u32,
 }

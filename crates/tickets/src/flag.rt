@@ -1,11 +1,10 @@
-// The ticket table of a job. A ticket is a flag that is raised once.
+// The ticket table of a job. A ticket is a flag that is raised once; the table knows it by its serial.
 ghost use Rattle.std.specs.Prelude.{◌≡◌, ◌<◌, Bool, IfSome, Some, length};
 ghost use Rattle.std.specs.List.{find, position};
 ghost use Rattle.std.specs.Option.{option_copied};
 ghost use Rattle.tickets.specs.Searches.{Computes, Tests};
 ghost use Rattle.tickets.specs.Tickets.{TicketsView, Place, change, mark_of, free_places, fresh_tickets, issue, raise, raise_each, raise_place, stands, ticket_room, vacate, waits};
 
-use crate::ticket::Ticket;
 use std::marker::Model;
 
 // The mark of a ticket that has a place in the table.
@@ -19,10 +18,10 @@ pub enum Mark {
     Raised,
 }
 
-// What lies in the table for a ticket: the ticket and its mark.
+// What lies in the table for a ticket: its serial and its mark.
 #[derive(Clone, Copy, PartialEq, Eq, Debug)]
 pub struct Entry {
-    pub ticket: Ticket,
+    pub ticket: u32,
     pub mark: Mark,
 }
 
@@ -31,7 +30,7 @@ type Place = Option<Entry>;
 
 impl Entry {
     // Whether it is that of this ticket, which waits.
-    fn waits(self, ticket: Ticket) -> bool
+    fn waits(self, ticket: u32) -> bool
         ensures { result ≡ waits ticket (Some self) }
     {
         self.mark != Mark::Raised && ticket == self.ticket
@@ -74,7 +73,7 @@ fn change<P: Fn(&Place) -> bool, F: FnOnce(Place) -> Place>(entries: &mut [Place
 }
 
 // The place of a ticket.
-fn place_of(entries: &[Place], ticket: Ticket) -> Option<&Place>
+fn place_of(entries: &[Place], ticket: u32) -> Option<&Place>
     ensures { option_copied result ≡ find (stands ticket) entries.now }
 {
     entries
@@ -131,27 +130,26 @@ impl Tickets {
     }
 
     // Gives the ticket with the next serial the first free place; none where there is no place or no serial.
-    pub fn issue(&mut self, held: bool) -> Option<Ticket>
+    pub fn issue(&mut self, held: bool) -> Option<u32>
         ensures { (self.new, result) ≡ issue held self.old }
     {
         // `fits` is asked, though `change` searches again: with the free place itself, the proof doesn't close.
         if !self.fits(1) {
             return None;
         }
-        let serial = self.issued + 1;
-        let ticket = Ticket::from(serial);
+        let ticket = self.issued + 1;
         let mark = if held { Mark::Held } else { Mark::Unheld };
         change(
             &mut self.entries,
             Option::is_none,
             |_| Some(Entry { ticket, mark }),
         );
-        self.issued = serial;
+        self.issued = ticket;
         Some(ticket)
     }
 
     // Raises a waiting ticket; nothing changes where it doesn't wait.
-    pub fn raise(&mut self, ticket: Ticket)
+    pub fn raise(&mut self, ticket: u32)
         ensures { self.new ≡ record self.old { table = raise ticket self.old.table } }
     {
         change(
@@ -162,7 +160,7 @@ impl Tickets {
     }
 
     // The mark of a ticket; none where it has no place.
-    pub fn mark(&self, ticket: Ticket) -> Option<Mark>
+    pub fn mark(&self, ticket: u32) -> Option<Mark>
         ensures { result ≡ mark_of ticket self.now.table }
     {
         place_of(&self.entries, ticket)
@@ -172,7 +170,7 @@ impl Tickets {
     }
 
     // Frees the place of a ticket, whatever its mark; nothing changes where it has none.
-    pub fn vacate(&mut self, ticket: Ticket)
+    pub fn vacate(&mut self, ticket: u32)
         ensures { self.new ≡ record self.old { table = vacate ticket self.old.table } }
     {
         change(
@@ -192,15 +190,15 @@ mod tests {
         let mut tickets = Tickets::new();
         assert!(rt; tickets.fits(256) && !tickets.fits(257));
         for serial in 1..=256u32 {
-            assert_eq!(rt; tickets.issue(true), Some(Ticket::from(serial)));
+            assert_eq!(rt; tickets.issue(true), Some(serial));
         }
         assert!(rt; tickets.fits(0) && !tickets.fits(1));
         assert_eq!(rt; tickets.issue(true), None);
-        tickets.vacate(Ticket::from(7));
-        assert_eq!(rt; tickets.issue(true), Some(Ticket::from(257)));
+        tickets.vacate(7);
+        assert_eq!(rt; tickets.issue(true), Some(257));
         assert_eq!(rt;
             tickets.entries[6].map(|entry| entry.ticket),
-            Some(Ticket::from(257))
+            Some(257)
         );
     }
 
@@ -211,9 +209,9 @@ mod tests {
             issued: u32::MAX - 1,
         };
         assert!(rt; tickets.fits(1) && !tickets.fits(2));
-        assert_eq!(rt; tickets.issue(true), Some(Ticket::from(u32::MAX)));
+        assert_eq!(rt; tickets.issue(true), Some(u32::MAX));
         assert!(rt; !tickets.fits(1));
         assert_eq!(rt; tickets.issue(true), None);
-        assert_eq!(rt; tickets.mark(Ticket::from(u32::MAX)), Some(Mark::Held));
+        assert_eq!(rt; tickets.mark(u32::MAX), Some(Mark::Held));
     }
 }

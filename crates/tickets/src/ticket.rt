@@ -1,23 +1,11 @@
 // A caller's ticket.
 ghost use Rattle.std.specs.Prelude.{◌≡◌};
 
-use std::marker::Model;
-
 /// What a send answers, and what its caller asks by whether the control is done. It is known by its
 /// serial, from 1 to 2^32 − 1; 0 is the cancelled ticket.
 #[derive(Clone, Copy, Debug, Default, PartialEq, Eq)]
 pub struct Ticket {
-    serial: u32,
-}
-
-impl Model for Ticket {
-    ghost use Rattle.std.specs.Prelude.{ℕ};
-
-    ghost Value = { ℕ };
-
-    ghost view = { λ t. t.serial };
-
-    ghost inverse = { λ n. record { serial = n } };
+    pub serial: u32,
 }
 
 impl Ticket {
@@ -27,7 +15,7 @@ impl Ticket {
 
 /// The ticket with this serial.
 impl From<u32> for Ticket {
-    ghost from_gives = { λ serial ticket. ticket ≡ serial };
+    ghost from_gives = { λ serial ticket. ticket.serial ≡ serial };
 
     fn from(serial: u32) -> Ticket {
         Ticket { serial }
@@ -36,7 +24,7 @@ impl From<u32> for Ticket {
 
 /// Its serial.
 impl From<Ticket> for u32 {
-    ghost from_gives = { λ ticket serial. serial ≡ ticket };
+    ghost from_gives = { λ ticket serial. serial ≡ ticket.serial };
 
     fn from(ticket: Ticket) -> u32 {
         ticket.serial

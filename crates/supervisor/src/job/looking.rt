@@ -11,11 +11,11 @@ use tickets::ticket::Ticket;
 
 impl Job {
     // Whether a held ticket is raised, or the job is closed.
-    fn is_done(&self, ticket: Ticket) -> Result<bool, Refusal>
+    fn is_done(&self, serial: u32) -> Result<bool, Refusal>
         ensures { let v = job_view self.now in
-            result ≡ Spec.is_done v.closed (mark_of ticket v.mailbox.tickets.table) }
+            result ≡ Spec.is_done v.closed (mark_of serial v.mailbox.tickets.table) }
     {
-        match self.mailbox.tickets.mark(ticket) {
+        match self.mailbox.tickets.mark(serial) {
             None | Some(Mark::Unheld) => Err(Refusal::Unknown),
             Some(Mark::Held) => Ok(self.closed),
             Some(Mark::Raised) => Ok(true),
@@ -24,25 +24,25 @@ impl Job {
 
     // Whether a ticket is done: raised, or of a closed job.
     pub fn look(&self, ticket: Ticket) -> Result<bool, Refusal>
-        ensures { result ≡ Spec.look ticket (job_view self.now) }
+        ensures { result ≡ Spec.look ticket.serial (job_view self.now) }
     {
         if ticket == Ticket::CANCELLED {
             return Ok(true);
         }
-        self.is_done(ticket)
+        self.is_done(ticket.serial)
     }
 
     // Gives a ticket back that is done; its place is free again.
     pub fn collect(&mut self, ticket: Ticket) -> Result<(), Refusal>
-        ensures { Answers (Spec.collect ticket) self.old result self.new }
+        ensures { Answers (Spec.collect ticket.serial) self.old result self.new }
     {
         if ticket == Ticket::CANCELLED {
             return Ok(());
         }
-        if !self.is_done(ticket)? {
+        if !self.is_done(ticket.serial)? {
             return Err(Refusal::Waiting);
         }
-        self.mailbox.vacate(ticket);
+        self.mailbox.vacate(ticket.serial);
         Ok(())
     }
 }

@@ -2,6 +2,7 @@
 use Rattle.std.proofs.Common.{◌≡◌, ℕ, ◌≤◌, ◌^◌, true, false, [], Ok, Err, Result, ap, arith}
 use Rattle.std.specs.Result.{OnErr}
 use Rattle.std.proofs.Props.{props}
+use Rattle.tickets.specs.declared.ticket.Ticket.{Ticket}
 use Rattle.task.specs.Task.{GrantMeansRunning}
 use Rattle.task.specs.View.{task_view}
 use Rattle.supervisor.specs.declared.errors.Refusal.{Refusal}
@@ -12,12 +13,11 @@ use Rattle.supervisor.specs.View.{mailbox_view}
 use Rattle.supervisor.proofs.Mailboxes.{send_in}
 use Rattle.supervisor.proofs.job.Job.send.Goals as goal
 
--- a job whose mailbox is the same where a send is refused is then the same
-kept : (r : Result ℕ Refusal) (j : Job) (m : Mailbox) → OnErr r (m ≡ j.mailbox) → (o : j.closed ≡ false → IsInOrder [] (mailbox_view m))
+-- a job whose mailbox is the same is the same
+kept : (j : Job) (m : Mailbox) → m ≡ j.mailbox → (o : j.closed ≡ false → IsInOrder [] (mailbox_view m))
     (f : HasAllPlaces (mailbox_view m)) (g : GrantMeansRunning (task_view j.task)) (y : j.closed ≡ true → (task_view j.task).foreground.grant ≡ false)
-    (t : j.clock ≤ 2 ^ 62) → OnErr r (record j { mailbox = m; in_order = o; full = f; granted = g; yielded = y; timely = t } ≡ j)
-kept (Ok x) j m e = λ _ _ _ _ _. tt
-kept (Err x) j m e = rw e (λ o f g y t.
+    (t : j.clock ≤ 2 ^ 62) → record j { mailbox = m; in_order = o; full = f; granted = g; yielded = y; timely = t } ≡ j
+kept j m e = rw e (λ o f g y t.
     let p : o ≡ j.in_order = hlevel props in
     let q : f ≡ j.full = hlevel props in
     let r : g ≡ j.granted = hlevel props in
@@ -32,5 +32,10 @@ invariant_of-self-clause-in_order c e =
 pub invariant_of-self-clause-full : goal.invariant_of-self-clause-full
 invariant_of-self-clause-full c = (invariant_of-self-clause-in_order c c.if-self.false).full
 
-pub returns : goal.returns
-returns c = record { answer = grind arith; unchanged = kept _ _ _ c.send.ensures.unchanged _ _ _ _ _ }
+where_refused : {P : Type 0} (r : Result Ticket Refusal) → P → OnErr r P
+where_refused (Ok x) p = tt
+where_refused (Err x) p = p
+
+pub returns-in_err-send : goal.returns-in_err-send
+returns-in_err-send c =
+    record { answer = grind arith; unchanged = where_refused _ (kept _ _ c.in_err-send.ensures.unchanged _ _ _ _ _) }
