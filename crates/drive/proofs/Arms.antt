@@ -33,16 +33,8 @@ Flags = Original.Original
 -- the original with the task t
 abbrev pub with_task : TaskView → Flags → Original.Original
 with_task t f = record f {
-  command = t.command;
-  pause_rx = t.foreground.pauses;
-  error_handler = t.settings.handler;
-  spawn_hook = t.settings.hook;
-  spawner = t.settings.way;
-  command_state = t.state;
-  previous_run = t.previous;
-  foreground_grant = t.foreground.grant;
-  pause_watch = t.foreground.watch;
-  paused = t.foreground.paused;
+  command = t.command; pause_rx = t.foreground.pauses; error_handler = t.settings.handler; spawn_hook = t.settings.hook; spawner = t.settings.way;
+  command_state = t.state; previous_run = t.previous; foreground_grant = t.foreground.grant; pause_watch = t.foreground.watch; paused = t.foreground.paused;
 }
 
 -- the flags once the control of this flag has had that outcome
@@ -160,8 +152,13 @@ module _ (am : Amendments) (ps : List ℕ) (P : (c : Call) → Reply c → Type 
   then_like : {C D : Type 0} (R : C → D → Type 0) (f : Flags) (t : Interaction TaskView) (u : Interaction Original.Original) (g : TaskView → Interaction C) (h : Original.Original → Interaction D) → Like P (Same f) t u → ((x : TaskView) → Kept x → Like P R (g x) (h (with_task x f))) → Like P R (bind t g) (bind u h)
   then_like R f t u g h k rest = like_then P (Same f) R t u g h k (λ x y s. rw s.0 (rest x s.1))
 
-  way_like : (t : TaskView) (f : Flags) → Kept t → Like P (Same f) (Tree.make_way t) (Original.resume_and_reclaim (with_task t f))
-  way_like t f e = then_like (Same f) f (Tree.resume t) (Original.resume_paused_command (with_task t f)) Tree.yield Original.reclaim (resume_like t.foreground.paused t.state t f e) (λ x d. reclaim_like x.foreground.grant x f refl d)
+  way_like : {C D : Type 0} (R : C → D → Type 0) (f : Flags) (t : TaskView) (g : TaskView → Interaction C) (h : Original.Original → Interaction D) → Kept t
+      → ((x : TaskView) → Kept x → Like P R (g x) (h (with_task x f))) → Like P R (bind (Tree.make_way t) g) (bind (Original.resume_and_reclaim (with_task t f)) h)
+  way_like R f t g h e rest =
+      let resume = resume_like t.foreground.paused t.state t f e in
+      let way = then_like (Same f) f (Tree.resume t) (Original.resume_paused_command (with_task t f)) Tree.yield Original.reclaim resume
+          (λ x d. reclaim_like x.foreground.grant x f refl d) in
+      then_like R f (Tree.make_way t) (Original.resume_and_reclaim (with_task t f)) g h way rest
 
   -- a fault is told on both sides
   told_like : {X C D : Type 0} (R : C → D → Type 0) (handler : Option ℕ) (fault : Fault) (x : X) (g : X → Interaction C) (h : Interaction D) → Like P R (g x) h → Like P R (bind (bind (Tree.tell_fault handler (Err fault)) (λ _. done x)) g) (bind (Original.handle handler fault) (λ _. h))
@@ -175,11 +172,14 @@ module _ (am : Amendments) (ps : List ℕ) (P : (c : Call) → Reply c → Type 
     force_like : {O : Type 0} (R : TaskView × O → Original.Original → Type 0) (child began : ℕ) (t : TaskView) (f : Flags) (g : TaskView × Result ⊤ Fault → Course O) (h : Rest) → ((fault : Fault) → Like P R (g (t, Err fault)) (done (with_task t (Original.raise flag f)))) → ((end : ProcessEnd) → let t₁ = Tree.in_state (Finished end began now) t in Like P R (g (t₁, Ok tt)) (h (with_task t₁ (Original.raise_on_end f)))) → Like P R (bind (Tree.report (Tree.end_by_force child began now t)) g) (Original.stop_child child began now flag (with_task t f) h)
     force_like R child began t f g h faulted ended = (_, refl, λ a p. kills a)
       where
-        waits : (b : Result ProcessEnd Fault) → Like P R (bind (Tree.report (done (Tree.after_wait began now t b))) g) (Original.try_with_handler flag (with_task t f, b) (λ status o. h (Original.raise_on_end (record o { command_state = Finished status began now }))))
+        over : ProcessEnd → Rest
+        over status o = h (Original.raise_on_end (record o { command_state = Finished status began now }))
+
+        waits : (b : Result ProcessEnd Fault) → Like P R (bind (Tree.report (done (Tree.after_wait began now t b))) g) (Original.try_with_handler flag (with_task t f, b) over)
         waits (Ok end) = ended end
         waits (Err fault) = told_like R t.settings.handler fault _ _ _ (faulted fault)
 
-        kills : (a : Result ⊤ Fault) → Like P R (bind (Tree.report (Tree.after_kill child began now t a)) g) (Original.try_with_handler flag (with_task t f, a) (λ _ o. bind (call (to_host (Calls.wait child))) (λ b. Original.try_with_handler flag (o, b) (λ status o₁. h (Original.raise_on_end (record o₁ { command_state = Finished status began now }))))))
+        kills : (a : Result ⊤ Fault) → Like P R (bind (Tree.report (Tree.after_kill child began now t a)) g) (Original.try_with_handler flag (with_task t f, a) (λ _ o. bind (call (to_host (Calls.wait child))) (λ b. Original.try_with_handler flag (o, b) over)))
         kills (Ok u) = (_, refl, λ b p. waits b)
         kills (Err fault) = told_like R t.settings.handler fault _ _ _ (faulted fault)
 
@@ -261,11 +261,11 @@ module _ (am : Amendments) (ps : List ℕ) (P : (c : Call) → Reply c → Type 
 
     pub control_like : (c : Control) (t : TaskView) (f : Flags) → AtOnce am c t.state → Kept t → Arm f (Tree.control c now t) (Original.arm am c now flag (with_task t f))
     control_like Start t f e d = start_like t.state t f d
-    control_like Stop t f e d = then_like (Ends f) f (Tree.make_way t) (Original.resume_and_reclaim (with_task t f)) _ _ (way_like t f d) (λ x k. stopped_like x.state x f)
+    control_like Stop t f e d = way_like (Ends f) f t _ _ d (λ x k. stopped_like x.state x f)
     control_like (GracefulStop n grace) t f e d = grace_like n grace GraceEnds.Stop t f _ d (λ x. (_, refl, refl))
-    control_like TryRestart t f e d = then_like (Ends f) f (Tree.make_way t) (Original.resume_and_reclaim (with_task t f)) _ _ (way_like t f d) (λ x k. restart_like x.state x f k)
+    control_like TryRestart t f e d = way_like (Ends f) f t _ _ d (λ x k. restart_like x.state x f k)
     control_like (TryGracefulRestart n grace) t f e d = grace_like n grace GraceEnds.Restart t f _ d (λ x. (_, refl, refl))
-    control_like ContinueTryGracefulRestart t f e d = then_like (Ends f) f (Tree.make_way t) (Original.resume_and_reclaim (with_task t f)) _ _ (way_like t f d) (λ x k. continue_like x.state x f k)
+    control_like ContinueTryGracefulRestart t f e d = way_like (Ends f) f t _ _ d (λ x k. continue_like x.state x f k)
     control_like (Signal n) t f e d = signal_like t.state n Settled t f _ (_, refl, refl)
     control_like Delete t f e d = then_like (Ends f) f (Tree.yield t) (Original.reclaim (with_task t f)) _ _ (reclaim_like t.foreground.grant t f refl d) (λ x k. delete_like x.state x f)
     control_like NextEnding t f e d = ending_like t.state t f e
