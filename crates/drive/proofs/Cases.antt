@@ -49,7 +49,7 @@ use Rattle.drive.specs.Calls.{Makes, MakesStep, as_value, send_value}
 use Rattle.drive.specs.Cases.{records, MeetsCases}
 use Rattle.drive.specs.Laws.{job_at}
 use Rattle.drive.specs.Restarts.{RestartPends}
-use Rattle.drive.proofs.Lawful.{goes, control_taken}
+use Rattle.drive.proofs.Laws.{goes, control_taken}
 use Rattle.drive.proofs.Steps.{accepted, step_cases}
 
 -- the only message that waits is taken

@@ -1,24 +1,29 @@
 -- What a call of a run did.
-use Rattle.std.proofs.Common.{◌≡◌, ℕ, ◌+◌, ◌%◌, ◌^◌, ◌≤◌, true, is_ok, length, take, drop, Ok, Err, Result, refl, arith}
+use Rattle.std.proofs.Common.{◌≡◌, ◌+◌, ◌%◌, ◌^◌, List, [], ◌∷◌, arith, ℕ, ◌≤◌, true, is_ok, length, take, drop, Ok, Err, Result, refl}
 use Rattle.std.proofs.lemmas.List.{take_at}
+use Rattle.host.specs.Calls.{Event}
+use Rattle.host.specs.Books.{HostBook, host_book_after, host_along, spawns_in}
 use Rattle.host.specs.declared.process.Host as Host
 use Rattle.host.specs.declared.terminal.Terminal as Terminal
 use Rattle.host.specs.Interaction.{Interaction}
 use Rattle.host.specs.Journal.{journal, spawns_among}
 use Rattle.host.proofs.Spawns.{journal-spawns}
-use Rattle.host.specs.Books.{spawns_in}
+use Rattle.task.proofs.Sheets.{journal-length}
 use Rattle.supervisor.specs.declared.answers.Stepped.{Stepped}
 use Rattle.supervisor.specs.declared.errors.Refusal.{Refusal}
 use Rattle.supervisor.specs.declared.answers.StepKind.{StepKind}
 use Rattle.supervisor.specs.Job.{JobView, StepEnd, may_step, tree_of}
 use Rattle.supervisor.specs.Steps.{Moment, job_view, Steps, StepsOrRefuses}
-use Rattle.task.proofs.Sheets.{journal-length}
 use Rattle.drive.specs.declared.calls.Call.{Call}
 use Rattle.drive.specs.declared.calls.Call.TheVariants.{Step}
 use Rattle.drive.specs.declared.calls.Done.{Done}
 use Rattle.drive.specs.Answers.{done_without, step_done}
 use Rattle.drive.specs.Calls.{Makes, MakesStep}
-use Rattle.drive.proofs.Counts.{along_spawns}
+
+-- the count of spawns of a host's book, along a trace
+pub along_spawns : (b : HostBook) (p : List Event) → (host_along b p).spawns % 2 ^ 64 ≡ (b.spawns + spawns_in p) % 2 ^ 64
+along_spawns b [] = omega arith
+along_spawns b ((c, a) ∷ p) = grind (arith, along_spawns (host_book_after b c a) p)
 
 -- the host's count of spawns grew by the starts tried
 abbrev pub CountsSpawns : {H T : Type 0} → Host.Ghosts H → Moment H T → Done → Moment H T → Type 0
