@@ -76,8 +76,8 @@ send_all_same p (c ∷ d ∷ cs) v raised = rw (prepare_same p c false v raised)
 same_send : (s : Send) (o : Original.Original) → Original.send s o ≡ Original.send_controls (priority_of s) (controls_of s) o
 same_send s o = grind (arith, common_steps)
 
-pub send_agrees : (s : Send) (v : JobView) (o : Original.Original) → (v.closed ≡ false → HasNoneLater v.mailbox) → Agrees v o → is_ok (send_value s v).1 ≡ true → Agrees (send_value s v).0 (Original.send s o)
-send_agrees s v o none a k = rw (same_send s o, same_original a) (by v.closed refl k)
+pub send_agrees : (s : Send) {v : JobView} {o : Original.Original} → (v.closed ≡ false → HasNoneLater v.mailbox) → Agrees v o → is_ok (send_value s v).1 ≡ true → Agrees (send_value s v).0 (Original.send s o)
+send_agrees s {v} {o} none a k = rw (same_send s o, same_original a) (by v.closed refl k)
   where
     admits : (r : Result ⊤ Refusal) → may_send (priority_of s) (controls_of s) v.mailbox ≡ r → v.closed ≡ false → is_ok (as_value Ticket (Mail.send_if r (priority_of s) (controls_of s) v.mailbox).1) ≡ true → Agrees (Job.after_send (Mail.send_if r (priority_of s) (controls_of s) v.mailbox) v).0 (Original.send_all (priority_of s) (controls_of s) (original_of v o.raised))
     admits (Ok u) l e k = rw (send_all_same (priority_of s) (controls_of s) v o.raised) (agree (admit_all_matches (priority_of s) (controls_of s) v.mailbox (grind (arith, l)) (none e) (tickets_match a)))
@@ -89,8 +89,8 @@ send_agrees s v o none a k = rw (same_send s o, same_original a) (by v.closed re
 
 -- PAUSES, LOOKS AND COLLECTS
 
-pub pause_agrees : (signal : ℕ) (v : JobView) (o : Original.Original) → Agrees v o → is_ok (pause_value signal v).1 ≡ true → Agrees (pause_value signal v).0 (Original.notice signal o)
-pause_agrees signal v o a k = rw (same_original a) (by (Job.may_pause signal v) k)
+pub pause_agrees : (signal : ℕ) {v : JobView} {o : Original.Original} → Agrees v o → is_ok (pause_value signal v).1 ≡ true → Agrees (pause_value signal v).0 (Original.notice signal o)
+pause_agrees signal {v} {o} a k = rw (same_original a) (by (Job.may_pause signal v) k)
   where
     by : (r : Result ⊤ Refusal) → is_ok (with_nothing (Job.pause_if r signal v)).1 ≡ true → Agrees (Job.pause_if r signal v).0 (Original.notice signal (original_of v o.raised))
     by (Ok u) k = agree (tickets_match a)
@@ -109,8 +109,8 @@ vacated_settled s t es once h = by (s == t) refl
         let after = one_standing s (vacate t es) (omega (arith, once, vacate-taken t es (one_at s))) in
         omega (arith, before, standing, after, vacate_waiting t es h (one_at s))
 
-pub collect_agrees : (ticket : ℕ) (v : JobView) (o : Original.Original) → (v.closed ≡ false → (s : ℕ) → weight is_taken (one_at s) v.mailbox.tickets.table ≤ 1) → Agrees v o → Agrees (collect_value (known_ticket ticket) v).0 o
-collect_agrees ticket v o once a = by (known_ticket ticket)
+pub collect_agrees : (ticket : ℕ) {v : JobView} {o : Original.Original} → (v.closed ≡ false → (s : ℕ) → weight is_taken (one_at s) v.mailbox.tickets.table ≤ 1) → Agrees v o → Agrees (collect_value (known_ticket ticket) v).0 o
+collect_agrees ticket {v} {o} once a = by (known_ticket ticket)
   where
     gone : (t : ℕ) → (v.closed ≡ false → mark_of t v.mailbox.tickets.table ≡ Some Raised) → Agrees (with_mailbox (Mail.vacate_ticket t v.mailbox) v) o
     gone t h =
