@@ -206,71 +206,72 @@ module _ (am : Amendments) (ps : List ℕ) (P : (c : Call) → Reply c → Type 
     abbrev Ends : Flags → TaskView × Outcome → Original.Original → Type 0
     Ends f x o = Settles now flag f x o
 
-    abbrev Arm : Flags → Course Outcome → Interaction Original.Original → Type 0
-    Arm f t u = Like P (Ends f) t u
-
     -- the child is started, and then the control has this outcome
-    launched_like : (f₀ f : Flags) (o : Outcome) (t : TaskView) → settled now flag o f₀ ≡ Original.raise flag f → Kept t → Arm f₀ (Tree.begin now o t) (Original.start_again am now flag (with_task t f))
+    launched_like : (f₀ f : Flags) (o : Outcome) (t : TaskView) → settled now flag o f₀ ≡ Original.raise flag f → Kept t → Like P (Ends f₀) (Tree.begin now o t) (Original.start_again am now flag (with_task t f))
     launched_like f₀ f o t e d = launch_like (Ends f₀) t f _ _ d by
       where
-        by : (x : TaskView) (r : Result ⊤ Fault) → Arm f₀ (bind (Tree.report (done (x, r))) (λ x. done (x.0, o))) (Original.try_with_handler flag (with_task x f, r) (λ _ o₁. Original.finish flag o₁))
+        by : (x : TaskView) (r : Result ⊤ Fault) → Like P (Ends f₀) (bind (Tree.report (done (x, r))) (λ x. done (x.0, o))) (Original.try_with_handler flag (with_task x f, r) (λ _ o₁. Original.finish flag o₁))
         by x (Ok u) = (_, refl, rw e refl)
         by x (Err fault) = told_like (Ends f₀) x.settings.handler fault _ _ _ (_, refl, rw e refl)
 
-    stopped_like : (s : CommandState) (t : TaskView) (f : Flags) → Arm f (Tree.stop_in s now t) (Original.stop s now flag (with_task t f))
-    stopped_like (Running child began) t f = force_like (Ends f) child began t f _ (Original.finish flag) (λ fault. (_, refl, refl)) (λ end. (_, refl, refl))
-    stopped_like s t f = (_, refl, refl)
+    module _ (f : Flags) where
+      abbrev Arm : Course Outcome → Interaction Original.Original → Type 0
+      Arm t u = Like P (Ends f) t u
 
-    replace_like : (child began : ℕ) (t : TaskView) (f : Flags) → Kept t → Arm f (Tree.replace child began now t) (Original.stop_child child began now flag (with_task t f) (Original.start_again am now flag))
-    replace_like child began t f d = force_like (Ends f) child began t f _ (Original.start_again am now flag) (λ fault. (_, refl, refl)) (λ end. launched_like f (Original.raise_on_end f) Ended (Tree.in_state (Finished end began now) t) refl d)
+      stopped_like : (s : CommandState) (t : TaskView) → Arm (Tree.stop_in s now t) (Original.stop s now flag (with_task t f))
+      stopped_like (Running child began) t = force_like (Ends f) child began t f _ (Original.finish flag) (λ fault. (_, refl, refl)) (λ end. (_, refl, refl))
+      stopped_like s t = (_, refl, refl)
 
-    restart_like : (s : CommandState) (t : TaskView) (f : Flags) → Kept t → Arm f (Tree.restart_in s now t) (Original.try_restart am s now flag (with_task t f))
-    restart_like (Running child began) t f d = replace_like child began t f d
-    restart_like s t f d = (_, refl, refl)
+      replace_like : (child began : ℕ) (t : TaskView) → Kept t → Arm (Tree.replace child began now t) (Original.stop_child child began now flag (with_task t f) (Original.start_again am now flag))
+      replace_like child began t d = force_like (Ends f) child began t f _ (Original.start_again am now flag) (λ fault. (_, refl, refl)) (λ end. launched_like f (Original.raise_on_end f) Ended (Tree.in_state (Finished end began now) t) refl d)
 
-    continue_like : (s : CommandState) (t : TaskView) (f : Flags) → Kept t → Arm f (Tree.continue_in s now t) (Original.continue_restart am s now flag (with_task t f))
-    continue_like (Running child began) t f d = replace_like child began t f d
-    continue_like s t f d = launched_like f f Settled t refl d
+      restart_like : (s : CommandState) (t : TaskView) → Kept t → Arm (Tree.restart_in s now t) (Original.try_restart am s now flag (with_task t f))
+      restart_like (Running child began) t d = replace_like child began t d
+      restart_like s t d = (_, refl, refl)
 
-    -- a signal to the child, and what follows where the host takes it
-    signal_like : (s : CommandState) (n : ℕ) (o : Outcome) (t : TaskView) (f : Flags) (h : Rest) → Arm f (done (t, o)) (h (with_task t f)) → Arm f (Tree.signal_in s n o t) (Original.signal_child s n flag (with_task t f) h)
-    signal_like (Running child began) n o t f h k = (_, refl, λ a p. by a)
-      where
-        by : (a : Result ⊤ Fault) → Arm f (bind (Tree.report (done (t, a))) (λ x. done (x.0, Tree.unless_faulted o x.1))) (Original.try_with_handler flag (with_task t f, a) (λ _ o₁. h o₁))
-        by (Ok u) = k
-        by (Err fault) = told_like (Ends f) t.settings.handler fault _ _ _ (_, refl, refl)
-    signal_like s n o t f h k = (_, refl, refl)
+      continue_like : (s : CommandState) (t : TaskView) → Kept t → Arm (Tree.continue_in s now t) (Original.continue_restart am s now flag (with_task t f))
+      continue_like (Running child began) t d = replace_like child began t d
+      continue_like s t d = launched_like f f Settled t refl d
 
-    -- the child is asked to end, and the original begins a grace so
-    grace_like : (n grace : ℕ) (end : GraceEnd) (t : TaskView) (f : Flags) (h : Rest) → Kept t → ((x : TaskView) → Arm f (done (x, Graced grace end)) (h (with_task x f))) → Arm f (Tree.end_gracefully n grace end t) (bind (Original.resume_paused_command (with_task t f)) (λ o. Original.signal_child o.command_state n flag o h))
-    grace_like n grace end t f h d k = then_like (Ends f) f (Tree.resume t) (Original.resume_paused_command (with_task t f)) _ _ (resume_like t.foreground.paused t.state t f d) (λ x _. signal_like x.state n (Graced grace end) x f h (k x))
+      -- a signal to the child, and what follows where the host takes it
+      signal_like : (s : CommandState) (n : ℕ) (o : Outcome) (t : TaskView) (h : Rest) → Arm (done (t, o)) (h (with_task t f)) → Arm (Tree.signal_in s n o t) (Original.signal_child s n flag (with_task t f) h)
+      signal_like (Running child began) n o t h k = (_, refl, λ a p. by a)
+        where
+          by : (a : Result ⊤ Fault) → Arm (bind (Tree.report (done (t, a))) (λ x. done (x.0, Tree.unless_faulted o x.1))) (Original.try_with_handler flag (with_task t f, a) (λ _ o₁. h o₁))
+          by (Ok u) = k
+          by (Err fault) = told_like (Ends f) t.settings.handler fault _ _ _ (_, refl, refl)
+      signal_like s n o t h k = (_, refl, refl)
 
-    delete_like : (s : CommandState) (t : TaskView) (f : Flags) → Arm f (Tree.delete_in s t) (done (record (Original.raise flag (with_task t f)) { gone = true }))
-    delete_like (Running child began) t f = (_, refl, refl)
-    delete_like s t f = (_, refl, refl)
+      -- the child is asked to end, and the original begins a grace so
+      grace_like : (n grace : ℕ) (end : GraceEnd) (t : TaskView) (h : Rest) → Kept t → ((x : TaskView) → Arm (done (x, Graced grace end)) (h (with_task x f))) → Arm (Tree.end_gracefully n grace end t) (bind (Original.resume_paused_command (with_task t f)) (λ o. Original.signal_child o.command_state n flag o h))
+      grace_like n grace end t h d k = then_like (Ends f) f (Tree.resume t) (Original.resume_paused_command (with_task t f)) _ _ (resume_like t.foreground.paused t.state t f d) (λ x _. signal_like x.state n (Graced grace end) x h (k x))
 
-    start_like : (s : CommandState) (t : TaskView) (f : Flags) → Kept t → Arm f (Tree.start_unless (is_running s) now t) (Original.start am s now flag (with_task t f))
-    start_like (Running child began) t f d = (_, refl, refl)
-    start_like Pending t f d = launched_like f f Settled t refl d
-    start_like (Finished end began finished) t f d = launched_like f f Settled t refl d
+      delete_like : (s : CommandState) (t : TaskView) → Arm (Tree.delete_in s t) (done (record (Original.raise flag (with_task t f)) { gone = true }))
+      delete_like (Running child began) t = (_, refl, refl)
+      delete_like s t = (_, refl, refl)
 
-    ending_like : (s : CommandState) (t : TaskView) (f : Flags) → AtOnce am NextEnding s → Arm f (done (t, Tree.joins s)) (done (Original.next_ending am s flag (with_task t f)))
-    ending_like Pending t f e = (_, refl, rw e refl)
-    ending_like (Running child began) t f e = (_, refl, refl)
-    ending_like (Finished end began finished) t f e = (_, refl, refl)
+      start_like : (s : CommandState) (t : TaskView) → Kept t → Arm (Tree.start_unless (is_running s) now t) (Original.start am s now flag (with_task t f))
+      start_like (Running child began) t d = (_, refl, refl)
+      start_like Pending t d = launched_like f f Settled t refl d
+      start_like (Finished end began finished) t d = launched_like f f Settled t refl d
 
-    pub control_like : (c : Control) (t : TaskView) (f : Flags) → AtOnce am c t.state → Kept t → Arm f (Tree.control c now t) (Original.arm am c now flag (with_task t f))
-    control_like Start t f e d = start_like t.state t f d
-    control_like Stop t f e d = way_like (Ends f) f t _ _ d (λ x k. stopped_like x.state x f)
-    control_like (GracefulStop n grace) t f e d = grace_like n grace GraceEnds.Stop t f _ d (λ x. (_, refl, refl))
-    control_like TryRestart t f e d = way_like (Ends f) f t _ _ d (λ x k. restart_like x.state x f k)
-    control_like (TryGracefulRestart n grace) t f e d = grace_like n grace GraceEnds.Restart t f _ d (λ x. (_, refl, refl))
-    control_like ContinueTryGracefulRestart t f e d = way_like (Ends f) f t _ _ d (λ x k. continue_like x.state x f k)
-    control_like (Signal n) t f e d = signal_like t.state n Settled t f _ (_, refl, refl)
-    control_like Delete t f e d = then_like (Ends f) f (Tree.yield t) (Original.reclaim (with_task t f)) _ _ (reclaim_like t.foreground.grant t f refl d) (λ x k. delete_like x.state x f)
-    control_like NextEnding t f e d = ending_like t.state t f e
-    control_like (Func n) t f e d = (_, refl, λ a p. (_, refl, refl))
-    control_like c t f e d = (_, refl, refl)
+      ending_like : (s : CommandState) (t : TaskView) → AtOnce am NextEnding s → Arm (done (t, Tree.joins s)) (done (Original.next_ending am s flag (with_task t f)))
+      ending_like Pending t e = (_, refl, rw e refl)
+      ending_like (Running child began) t e = (_, refl, refl)
+      ending_like (Finished end began finished) t e = (_, refl, refl)
+
+      pub control_like : (c : Control) (t : TaskView) → AtOnce am c t.state → Kept t → Arm (Tree.control c now t) (Original.arm am c now flag (with_task t f))
+      control_like Start t e d = start_like t.state t d
+      control_like Stop t e d = way_like (Ends f) f t _ _ d (λ x k. stopped_like x.state x)
+      control_like (GracefulStop n grace) t e d = grace_like n grace GraceEnds.Stop t _ d (λ x. (_, refl, refl))
+      control_like TryRestart t e d = way_like (Ends f) f t _ _ d (λ x k. restart_like x.state x k)
+      control_like (TryGracefulRestart n grace) t e d = grace_like n grace GraceEnds.Restart t _ d (λ x. (_, refl, refl))
+      control_like ContinueTryGracefulRestart t e d = way_like (Ends f) f t _ _ d (λ x k. continue_like x.state x k)
+      control_like (Signal n) t e d = signal_like t.state n Settled t _ (_, refl, refl)
+      control_like Delete t e d = then_like (Ends f) f (Tree.yield t) (Original.reclaim (with_task t f)) _ _ (reclaim_like t.foreground.grant t f refl d) (λ x k. delete_like x.state x)
+      control_like NextEnding t e d = ending_like t.state t e
+      control_like (Func n) t e d = (_, refl, λ a p. (_, refl, refl))
+      control_like c t e d = (_, refl, refl)
 
     -- THE WAIT FOR THE CHILD
 

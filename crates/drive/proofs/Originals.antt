@@ -66,27 +66,25 @@ module _ {W : Type 0} (did : W → (c : Call) → Reply c → W → Type 0) (am 
   Drops = (if am.drops then [] else v.task.foreground.pauses) ≡ []
 
   control_comes : (r : Message.Received) (n : MailboxView) → Mail.take now v.mailbox ≡ Some (r, n) → (raised : List ℕ) → MatchesTickets v.closed v.mailbox.tickets raised → IsApart am Kinds.Control now v (journal p) → Traces did (carry_out (Some (r, n)) now v) w p s w' → Comes (Original.arm am r.message.control now r.message.ticket (state_of v.task n raised v.closed))
-  control_comes r n e raised h apart run = rw free (end_comes (Speaks Drops) (Settles now r.message.ticket f) (Tree.control c now v.task) (Original.arm am c now r.message.ticket f) (control_end now r n) like (spoken Drops p apart.waiting) agrees run)
+  control_comes r n e raised h apart run =
+      let c = r.message.control in
+      let t = r.message.ticket in
+      let f = state_of v.task n raised false in
+      let pending = at_once c v.task.state (λ i j. apart.pending refl r n e i j) in
+      let like = control_like am v.task.foreground.pauses (Speaks Drops) (λ _ _ _ _ _ h. h refl) now t f c v.task pending refl in
+      rw free (end_comes (Speaks Drops) (Settles now t f) (Tree.control c now v.task) (Original.arm am c now t f) (control_end now r n) like
+          (spoken Drops p apart.waiting)
+          (λ x trace o z.
+              let fits = control_fits c now v.task in
+              let ends = traced did v.task granted (Carried c (is_running v.task.state)) (Tree.control c now v.task) w w' p x fits trace _ _ (fitting v.task) in
+              let hand = take_in now v.mailbox r n order e in
+              let match : MatchesTickets false n.tickets raised = rw ((take_moves now v.mailbox r n e).0, ← free) h in
+              rw z (settle_agrees now v.task r n x hand.order (λ i. hand.free (ends.timed i)) match))
+          run)
     where
-      c : Control
-      c = r.message.control
-
-      f : Original.Original
-      f = state_of v.task n raised false
-
       at_once : (c : Control) (state : CommandState) → (c ≡ NextEnding → state ≡ Pending → am.at_once ≡ true) → AtOnce am c state
       at_once NextEnding Pending k = k refl refl
       at_once c state k = tt
-
-      like : Like (Speaks Drops) (Settles now r.message.ticket (state_of v.task n raised false)) (Tree.control r.message.control now v.task) (Original.arm am r.message.control now r.message.ticket (state_of v.task n raised false))
-      like = control_like am v.task.foreground.pauses (Speaks Drops) (λ _ _ _ _ _ h. h refl) now r.message.ticket r.message.control v.task (state_of v.task n raised false) (at_once r.message.control v.task.state (λ i j. apart.pending refl r n e i j)) refl
-
-      agrees : (x : TaskView × Outcome) → Traces did (Tree.control r.message.control now v.task) w p x w' → (o : Original.Original) → Settles now r.message.ticket (state_of v.task n raised false) x o → Agrees (control_end now r n x).view o
-      agrees x trace o z =
-          let ends = traced did v.task granted (Carried r.message.control (is_running v.task.state)) (Tree.control r.message.control now v.task) w w' p x (control_fits r.message.control now v.task) trace _ _ (fitting v.task) in
-          let hand = take_in now v.mailbox r n order e in
-          let match : MatchesTickets false n.tickets raised = rw ((take_moves now v.mailbox r n e).0, ← free) h in
-          rw z (settle_agrees now v.task r n x hand.order (λ i. hand.free (ends.timed i)) match)
 
   -- a turn of the loop
   turn_comes : (kind : StepKind) (own : ℕ) (raised : List ℕ) → MatchesTickets v.closed v.mailbox.tickets raised → IsApart am kind now v (journal p) → Traces did (tree_of kind own now v) w p s w' → Comes (Original.branch am kind own now (original_of v raised))

@@ -63,9 +63,7 @@ admit_all_matches p (c ∷ d ∷ cs) m room none h =
 
 -- the original prepares a message as the mailbox admits it
 prepare_same : (p : Priority) (c : Control) (held : Bool) (v : JobView) (raised : List ℕ) → Original.prepare p c (original_of v raised) ≡ original_of (with_mailbox (admit p c held v.mailbox) v) raised
-prepare_same Normal c held v raised = simp map-append refl
-prepare_same High c held v raised = simp map-append refl
-prepare_same Urgent c held v raised = simp map-append refl
+prepare_same p c held v raised = grind (arith, common_steps, map-append)
 
 send_all_same : (p : Priority) (cs : List Control) (v : JobView) (raised : List ℕ) → Original.send_all p cs (original_of v raised) ≡ original_of (with_mailbox (admit_all p cs v.mailbox) v) raised
 send_all_same p [] v raised = refl
