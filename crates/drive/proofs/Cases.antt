@@ -53,11 +53,15 @@ use Rattle.drive.proofs.Laws.{goes, control_taken}
 use Rattle.drive.proofs.Steps.{accepted, step_cases}
 
 -- the only message that waits is taken
-take_only : (now : ℕ) (m : MailboxView) (c : ControlMessage) → m.timer ≡ None → m.queues.urgent ≡ [] → m.queues.high ≡ c ∷ [] → Mail.take now m ≡ Some (message_from c Sources.Queue, with_queues (record m.queues { high = [] }) m)
+take_only : (now : ℕ) (m : MailboxView) (c : ControlMessage) → m.timer ≡ None → m.queues.urgent ≡ [] → m.queues.high ≡ c ∷ []
+    → Mail.take now m ≡ Some (message_from c Sources.Queue, with_queues (record m.queues { high = [] }) m)
 take_only now m c none urgent high = grind (arith, common_steps)
 
 -- a ticket that was just issued, after the step that takes its NextEnding
-waited_look : (now : ℕ) (v : JobView) → 1 ≤ free_places v.mailbox.tickets.table → weight is_taken (one_at (v.mailbox.tickets.issued + 1)) v.mailbox.tickets.table ≡ 0 → (r : Received) (n : MailboxView) → n.tickets ≡ give (v.mailbox.tickets.issued + 1) true v.mailbox.tickets → r.message.ticket ≡ v.mailbox.tickets.issued + 1 → look (v.mailbox.tickets.issued + 1) (control_end now r n (v.task, Tree.joins v.task.state)).view ≡ Ok (not (is_running v.task.state))
+waited_look : (now : ℕ) (v : JobView) → 1 ≤ free_places v.mailbox.tickets.table → weight is_taken (one_at (v.mailbox.tickets.issued + 1))
+    v.mailbox.tickets.table ≡ 0 → (r : Received) (n : MailboxView) → n.tickets ≡ give (v.mailbox.tickets.issued + 1) true v.mailbox.tickets
+    → r.message.ticket ≡ v.mailbox.tickets.issued + 1 → look (v.mailbox.tickets.issued + 1) (control_end now r n (v.task, Tree.joins v.task.state)).view
+    ≡ Ok (not (is_running v.task.state))
 waited_look now v room later r n e t = by (is_running v.task.state)
   where
     held : mark_of (v.mailbox.tickets.issued + 1) n.tickets.table ≡ Some Held
@@ -68,32 +72,43 @@ waited_look now v room later r n e t = by (is_running v.task.state)
     by false = grind (arith, nat_tests, t, raise-held (v.mailbox.tickets.issued + 1) n.tickets.table held)
 
 -- a `to_wait`, and the step that takes its control
-waited : {W : Type 0} (did : W → (c : Call) → Reply c → W → Type 0) (now ticket : ℕ) (v m : JobView) (answer : Result Value Refusal) → v.closed ≡ false → ((s : ℕ) → v.mailbox.tickets.issued < s → weight is_taken (one_at s) v.mailbox.tickets.table ≡ 0) → v.mailbox.timer ≡ None → v.mailbox.queues.urgent ≡ [] → v.mailbox.queues.high ≡ [] → (m, answer) ≡ send_value Sends.ToWait v → answer ≡ Ok (Ticket ticket) → (w w' : W) (p : List Event) (s : StepEnd) → Traces did (control_step now m) w p s w' → look ticket s.view ≡ Ok (not (is_running v.task.state))
+waited : {W : Type 0} (did : W → (c : Call) → Reply c → W → Type 0) (now ticket : ℕ) (v m : JobView) (answer : Result Value Refusal) → v.closed ≡ false
+    → ((s : ℕ) → v.mailbox.tickets.issued < s → weight is_taken (one_at s) v.mailbox.tickets.table ≡ 0) → v.mailbox.timer ≡ None → v.mailbox.queues.urgent ≡ []
+    → v.mailbox.queues.high ≡ [] → (m, answer) ≡ send_value Sends.ToWait v → answer ≡ Ok (Ticket ticket) → (w w' : W) (p : List Event) (s : StepEnd)
+    → Traces did (control_step now m) w p s w' → look ticket s.view ≡ Ok (not (is_running v.task.state))
 waited did now ticket v m answer free later none urgent high sent ok w w' p s run = whether v.closed free sent
   where
     valued : JobView × Result ℕ Refusal → JobView × Result Value Refusal
     valued x = (x.0, as_value Ticket x.1)
 
-    steps : 1 ≤ free_places v.mailbox.tickets.table → m ≡ Job.with_mailbox (Mail.admit High NextEnding true v.mailbox) v → ticket ≡ v.mailbox.tickets.issued + 1 → look ticket s.view ≡ Ok (not (is_running v.task.state))
+    steps : 1 ≤ free_places v.mailbox.tickets.table → m ≡ Job.with_mailbox (Mail.admit High NextEnding true v.mailbox) v → ticket ≡ v.mailbox.tickets.issued + 1
+        → look ticket s.view ≡ Ok (not (is_running v.task.state))
     steps room z e =
         let w₁ = Job.with_mailbox (Mail.admit High NextEnding true v.mailbox) v in
         let r = message_from (Mail.message NextEnding (v.mailbox.tickets.issued + 1)) Sources.Queue in
         let n = with_queues (record (Mail.admit High NextEnding true v.mailbox).queues { high = [] }) (Mail.admit High NextEnding true v.mailbox) in
-        let taken : Mail.take now w₁.mailbox ≡ Some (r, n) = take_only now (Mail.admit High NextEnding true v.mailbox) (Mail.message NextEnding (v.mailbox.tickets.issued + 1)) none urgent (ap (λ cs. cs ++ Mail.message NextEnding (v.mailbox.tickets.issued + 1) ∷ []) high) in
+        let taken : Mail.take now w₁.mailbox ≡ Some (r, n) = take_only now (Mail.admit High NextEnding true v.mailbox)
+            (Mail.message NextEnding (v.mailbox.tickets.issued + 1)) none urgent (ap (λ cs. cs ++ Mail.message NextEnding (v.mailbox.tickets.issued + 1) ∷ [])
+            high) in
         let sent : Traces did (control_step now w₁) w p s w' = subst (λ (u : JobView). Traces did (control_step now u) w p s w') z run in
-        let done : Traces did (carry_out (Some (r, n)) now w₁) w p s w' = subst (λ (k : Mail.TakeResult). Traces did (carry_out k now w₁) w p s w') taken sent in
+        let done : Traces did (carry_out (Some (r, n)) now w₁) w p s w' = subst (λ (k : Mail.TakeResult). Traces did (carry_out k now w₁) w p s w') taken sent
+            in
         subst (λ (t : ℕ). look t s.view ≡ Ok (not (is_running v.task.state))) (sym e)
-        (subst (λ (u : StepEnd). look (v.mailbox.tickets.issued + 1) u.view ≡ Ok (not (is_running v.task.state))) (sym done.1) (waited_look now v room (later (v.mailbox.tickets.issued + 1) (omega arith)) r n refl refl))
+        (subst (λ (u : StepEnd). look (v.mailbox.tickets.issued + 1) u.view ≡ Ok (not (is_running v.task.state))) (sym done.1)
+            (waited_look now v room (later (v.mailbox.tickets.issued + 1) (omega arith)) r n refl refl))
 
-    sends : (r : Result ⊤ Refusal) → may_send High (NextEnding ∷ []) v.mailbox ≡ r → (m, answer) ≡ valued (Job.after_send (Mail.send_if r High (NextEnding ∷ []) v.mailbox) v) → look ticket s.view ≡ Ok (not (is_running v.task.state))
+    sends : (r : Result ⊤ Refusal) → may_send High (NextEnding ∷ []) v.mailbox ≡ r
+        → (m, answer) ≡ valued (Job.after_send (Mail.send_if r High (NextEnding ∷ []) v.mailbox) v) → look ticket s.view ≡ Ok (not (is_running v.task.state))
     sends (Err r) l q = absurd (cc (ok, ap (λ x. x.1) q))
     sends (Ok u) l q = steps (grind (arith, nat_tests, l)) (ap (λ x. x.0) q) (cc (ok, ap (λ x. x.1) q))
 
-    whether : (closed : Bool) → closed ≡ false → (m, answer) ≡ valued (if closed then (v, Ok 0) else Job.after_send (Mail.send High (NextEnding ∷ []) v.mailbox) v) → look ticket s.view ≡ Ok (not (is_running v.task.state))
+    whether : (closed : Bool) → closed ≡ false → (m, answer) ≡ valued (if closed then (v, Ok 0) else Job.after_send (Mail.send High (NextEnding ∷ []) v.mailbox)
+        v) → look ticket s.view ≡ Ok (not (is_running v.task.state))
     whether true e q = cc e
     whether false e q = sends (may_send High (NextEnding ∷ []) v.mailbox) refl q
 
-module _ {H T : Type 0} {by_host : Host.Ghosts H} {by_terminal : Terminal.Ghosts T} {tree : ℕ → JobView → Interaction StepEnd} {now : ℕ} {a b : Moment H T} {d : Done} where
+module _ {H T : Type 0} {by_host : Host.Ghosts H} {by_terminal : Terminal.Ghosts T} {tree : ℕ → JobView → Interaction StepEnd} {now : ℕ} {a b : Moment H T}
+    {d : Done} where
   -- a step is refused as `may_step` says, and else accepted
   step_refused : (x : Refusal) → may_step now (length a.sheet) (job_at a) ≡ Err x → MakesStep by_host by_terminal tree now a d b → d.answer ≡ Err x
   step_refused x e made = step_cases (λ d b. d.answer ≡ Err x) (λ r may. cc (may, e)) (λ s may step. absurd (cc (may, e))) made
@@ -103,13 +118,15 @@ module _ {H T : Type 0} {by_host : Host.Ghosts H} {by_terminal : Terminal.Ghosts
 
 module _ {H T : Type 0} (by_host : Host.Ghosts H) (by_terminal : Terminal.Ghosts T) where
   -- the clock is at most the latest time
-  may_at_clock : (now : ℕ) (a : Moment H T) → (job_at a).closed ≡ false → 8 ≤ length a.sheet → now ≡ (job_at a).clock → may_step now (length a.sheet) (job_at a) ≡ Ok tt
+  may_at_clock : (now : ℕ) (a : Moment H T) → (job_at a).closed ≡ false → 8 ≤ length a.sheet → now ≡ (job_at a).clock → may_step now (length a.sheet) (job_at a)
+      ≡ Ok tt
   may_at_clock now a free l e =
       let timely : (job_at a).clock ≤ 2 ^ 62 = a.job.timely in
       grind (arith, nat_tests, common_steps, free, l, e, timely)
 
   -- a child that ends within a grace
-  within : (t : Timer) (now : ℕ) (a : Moment H T) (d : Done) (b : Moment H T) → RestartPends t (job_at a) → 1 ≤ count_by reports_end (records d b) → Makes by_host by_terminal (Calls.Step Kinds.Child now) a d b → d.tally.tried ≡ 1
+  within : (t : Timer) (now : ℕ) (a : Moment H T) (d : Done) (b : Moment H T) → RestartPends t (job_at a) → 1 ≤ count_by reports_end (records d b)
+      → Makes by_host by_terminal (Calls.Step Kinds.Child now) a d b → d.tally.tried ≡ 1
   within t now a d b p l made =
       step_cases (λ d b. 1 ≤ count_by reports_end (records d b) → d.tally.tried ≡ 1) (λ r may l. absurd (grind (arith, common_steps, l)))
       (λ s may step l.
@@ -128,7 +145,8 @@ module _ {H T : Type 0} (by_host : Host.Ghosts H) (by_terminal : Terminal.Ghosts
 
   -- a child step takes no order
   child_orders : (now : ℕ) (a : Moment H T) (d : Done) (b : Moment H T) → Makes by_host by_terminal (Calls.Step Kinds.Child now) a d b → d.tally.ordered ≡ 0
-  child_orders now a d b made = step_cases (λ d b. d.tally.ordered ≡ 0) (λ r may. refl) (λ s may step. ap (λ x. from_bool x.ordered) (way_of Kinds.Child 0 now a b s step).2) made
+  child_orders now a d b made = step_cases (λ d b. d.tally.ordered ≡ 0) (λ r may. refl) (λ s may step. ap (λ x. from_bool x.ordered)
+      (way_of Kinds.Child 0 now a b s step).2) made
 
 pub cases : {H T : Type 0} (by_host : Host.Ghosts H) (by_terminal : Terminal.Ghosts T) → MeetsCases by_host by_terminal
 cases by_host by_terminal =

@@ -33,7 +33,8 @@ use Rattle.drive.proofs.Arms.{with_task}
 -- RAISED
 
 -- of a table with one place for it at most: a ticket that is raised is settled, and any other as it was
-raise-settled : (s t : ℕ) (es : Table) → weight is_taken (one_at s) es ≤ 1 → done_count (mark_of s (raise t es)) ≡ (if s == t then 1 else done_count (mark_of s es))
+raise-settled : (s t : ℕ) (es : Table) → weight is_taken (one_at s) es ≤ 1 → done_count (mark_of s (raise t es))
+    ≡ (if s == t then 1 else done_count (mark_of s es))
 raise-settled s t [] h = grind (arith, common_steps)
 raise-settled s t (e ∷ es) h = grind (arith, common_steps, nat_tests, raise-settled s t es, taken_parts (one_at s) es, one_standing s es)
 
@@ -53,13 +54,17 @@ once_each : (ts : List ℕ) (es : Table) → OnceIn es → OnceIn (raise_each ts
 once_each [] es once = once
 once_each (t ∷ ts) es once = once_each ts (raise t es) (λ s. omega (arith, raise-taken t es (one_at s), once s))
 
-each_matches : (ts : List ℕ) (k : TicketsView) {closed : Bool} {raised : List ℕ} → OnceIn k.table → Made k.issued ts → MatchesTickets closed k raised → MatchesTickets closed (record k { table = raise_each ts k.table }) (ts ++ raised)
+each_matches : (ts : List ℕ) (k : TicketsView) {closed : Bool} {raised : List ℕ} → OnceIn k.table → Made k.issued ts → MatchesTickets closed k raised
+    → MatchesTickets closed (record k { table = raise_each ts k.table }) (ts ++ raised)
 each_matches [] k once made h = h
 each_matches (t ∷ ts) k {closed} {raised} once made h =
     let one = record k { table = raise t k.table } in
-    let first : MatchesTickets closed one (t ∷ raised) = record { later = λ s l. grind (arith, common_steps, made s l, h.later s l); same = λ e s i j. grind (arith, common_steps, raise-settled s t k.table (once s), h.same e s i j) } in
+    let first : MatchesTickets closed one (t ∷ raised) =
+        record { later = λ s l. grind (arith, common_steps, made s l, h.later s l); same = λ e s i j. grind (arith, common_steps, raise-settled s t k.table
+        (once s), h.same e s i j) } in
     let rest = each_matches ts one (once_each (t ∷ []) k.table once) (λ s l. grind (arith, common_steps, made s l)) first in
-    record { later = λ s l. grind (arith, common_steps, list_any-append, rest.later s l); same = λ e s i j. grind (arith, common_steps, list_any-append, rest.same e s i j) }
+    record { later = λ s l. grind (arith, common_steps, list_any-append, rest.later s l); same = λ e s i j. grind (arith, common_steps, list_any-append,
+        rest.same e s i j) }
 
 -- a ticket that weighs nothing in a list is not in it
 none_weighs : (s : ℕ) (ts : List ℕ) → weigh (one_at s) ts ≡ 0 → is_raised s ts ≡ false
@@ -128,11 +133,14 @@ agree h = record {
 -- OUTCOMES
 
 -- a control that has had an outcome
-pub settle_agrees : (now : ℕ) (before : TaskView) (r : Received) (m : MailboxView) (x : TaskView × Outcome) {raised : List ℕ} → IsInOrder (r.message.ticket ∷ []) m → (is_graced x.1 ≡ true → m.timer ≡ None) → MatchesTickets false m.tickets raised → Agrees (control_end now r m x).view (with_task x.0 (Arms.settled now r.message.ticket x.1 (state_of before m raised false)))
+pub settle_agrees : (now : ℕ) (before : TaskView) (r : Received) (m : MailboxView) (x : TaskView × Outcome) {raised : List ℕ}
+    → IsInOrder (r.message.ticket ∷ []) m → (is_graced x.1 ≡ true → m.timer ≡ None) → MatchesTickets false m.tickets raised
+    → Agrees (control_end now r m x).view (with_task x.0 (Arms.settled now r.message.ticket x.1 (state_of before m raised false)))
 settle_agrees now before r m (t, Settled) order free h = agree (each_matches (r.message.ticket ∷ []) m.tickets order.once (hand_made order) h)
 settle_agrees now before r m (t, Ended) order free h =
     let ended = each_matches m.ending m.tickets order.once (ending_made order) h in
-    agree (each_matches (r.message.ticket ∷ []) (record m.tickets { table = raise_each m.ending m.tickets.table }) (once_each m.ending m.tickets.table order.once) (hand_made order) ended)
+    agree (each_matches (r.message.ticket ∷ []) (record m.tickets { table = raise_each m.ending m.tickets.table })
+        (once_each m.ending m.tickets.table order.once) (hand_made order) ended)
 settle_agrees now before r m (t, Graced grace Stop) order free h = rw (free refl) (agree h)
 settle_agrees now before r m (t, Graced grace Restart) order free h = agree h
 settle_agrees now before r m (t, Joined) order free h = agree h
@@ -141,23 +149,30 @@ settle_agrees now before r m (t, Closes) order free h =
     agree (record { later = closed.later; same = λ _. closed.same refl })
 
 -- a poll of the child
-pub poll_agrees : (now : ℕ) (v : JobView) (x : TaskView × PollOutcome) {raised : List ℕ} → IsInOrder [] v.mailbox → MatchesTickets v.closed v.mailbox.tickets raised → Agrees (poll_end now v x).view (with_task x.0 (Arms.seen x.1 (original_of v raised)))
+pub poll_agrees : (now : ℕ) (v : JobView) (x : TaskView × PollOutcome) {raised : List ℕ} → IsInOrder [] v.mailbox
+    → MatchesTickets v.closed v.mailbox.tickets raised → Agrees (poll_end now v x).view (with_task x.0 (Arms.seen x.1 (original_of v raised)))
 poll_agrees now v x {raised} order h = by v.mailbox.timer x.1 order
   where
     -- the timer's ticket, and those of the ending list
-    ended : (t : Timer) → IsInOrder [] (with_timer (Some t) v.mailbox) → MatchesTickets v.closed (raise_at_end (with_timer (Some t) v.mailbox)).tickets (v.mailbox.ending ++ t.ticket ∷ raised)
+    ended : (t : Timer) → IsInOrder [] (with_timer (Some t) v.mailbox) → MatchesTickets v.closed (raise_at_end (with_timer (Some t) v.mailbox)).tickets
+        (v.mailbox.ending ++ t.ticket ∷ raised)
     ended t order =
         let m = with_timer (Some t) v.mailbox in
         let one = each_matches (t.ticket ∷ []) m.tickets order.once (timer_made m t refl order) h in
-        each_matches m.ending (record m.tickets { table = raise t.ticket m.tickets.table }) (once_each (t.ticket ∷ []) m.tickets.table order.once) (ending_made order) one
+        each_matches m.ending (record m.tickets { table = raise t.ticket m.tickets.table }) (once_each (t.ticket ∷ []) m.tickets.table order.once)
+            (ending_made order) one
 
-    by : (k : Option Timer) (o : PollOutcome) → IsInOrder [] (with_timer k v.mailbox) → Agrees (poll_end now (record v { mailbox = with_timer k v.mailbox }) (x.0, o)).view (with_task x.0 (Arms.seen o (state_of v.task (with_timer k v.mailbox) raised v.closed)))
+    by : (k : Option Timer) (o : PollOutcome) → IsInOrder [] (with_timer k v.mailbox)
+        → Agrees (poll_end now (record v { mailbox = with_timer k v.mailbox }) (x.0, o)).view
+        (with_task x.0 (Arms.seen o (state_of v.task (with_timer k v.mailbox) raised v.closed)))
     by None Over order = agree (each_matches v.mailbox.ending v.mailbox.tickets order.once (ending_made order) h)
     by None Renewed order = agree (each_matches v.mailbox.ending v.mailbox.tickets order.once (ending_made order) h)
     by (Some t) Over order = agree (ended t order)
     by (Some t) Renewed order = again t.end order
       where
-        again : (e : GraceEnd) → IsInOrder [] (with_timer (Some (record t { end = e })) v.mailbox) → Agrees (poll_end now (record v { mailbox = with_timer (Some (record t { end = e })) v.mailbox }) (x.0, Renewed)).view (with_task x.0 (Arms.seen Renewed (state_of v.task (with_timer (Some (record t { end = e })) v.mailbox) raised v.closed)))
+        again : (e : GraceEnd) → IsInOrder [] (with_timer (Some (record t { end = e })) v.mailbox)
+            → Agrees (poll_end now (record v { mailbox = with_timer (Some (record t { end = e })) v.mailbox }) (x.0, Renewed)).view
+            (with_task x.0 (Arms.seen Renewed (state_of v.task (with_timer (Some (record t { end = e })) v.mailbox) raised v.closed)))
         again Stop order = agree (ended (record t { end = Stop }) order)
         again Restart order =
             let u = record t { end = Restart } in
@@ -183,16 +198,19 @@ module _ (t : TaskView) (m : MailboxView) (raised : List ℕ) (gone : Bool) wher
   abbrev next_received : NextResult → Original.RecvResult
   next_received k = as_received (option_map (λ x. (message_from x.0 Sources.Queue, with_queues x.1 m)) k)
 
-  normal_received : (waits : Bool) (cs : List ControlMessage) → Original.recv_normal waits (map message_of cs) original ≡ next_received (take_normal waits cs m.queues)
+  normal_received : (waits : Bool) (cs : List ControlMessage) → Original.recv_normal waits (map message_of cs) original ≡ next_received
+      (take_normal waits cs m.queues)
   normal_received true cs = refl
   normal_received false [] = refl
   normal_received false (c ∷ cs) = refl
 
-  high_received : (waits : Bool) (cs : List ControlMessage) → Original.recv_high waits (map message_of cs) original ≡ next_received (take_high waits cs m.queues)
+  high_received : (waits : Bool) (cs : List ControlMessage) → Original.recv_high waits (map message_of cs) original ≡ next_received
+      (take_high waits cs m.queues)
   high_received waits [] = normal_received waits m.queues.normal
   high_received waits (c ∷ cs) = refl
 
-  urgent_received : (waits : Bool) (cs : List ControlMessage) → Original.recv_urgent waits (map message_of cs) original ≡ next_received (take_urgent waits cs m.queues)
+  urgent_received : (waits : Bool) (cs : List ControlMessage) → Original.recv_urgent waits (map message_of cs) original ≡ next_received
+      (take_urgent waits cs m.queues)
   urgent_received waits [] = high_received waits m.queues.high
   urgent_received waits (c ∷ cs) = refl
 
@@ -207,7 +225,8 @@ module _ (t : TaskView) (m : MailboxView) (raised : List ℕ) (gone : Bool) wher
   recv-received am now forgets = by m.timer refl
     where
       -- the restart that the timer continues is forgotten, if there is one
-      message : (k : Timer) (end : GraceEnd) → (end ≡ Restart → am.forgets ≡ true) → Original.recv_timer am (Some (timer_of (record k { end = end }))) (record original { on_end_restart = memory_of end k.ticket }) ≡ as_received (take_due (Some (timer_message (record k { end = end }))) m)
+      message : (k : Timer) (end : GraceEnd) → (end ≡ Restart → am.forgets ≡ true) → Original.recv_timer am (Some (timer_of (record k { end = end })))
+          (record original { on_end_restart = memory_of end k.ticket }) ≡ as_received (take_due (Some (timer_message (record k { end = end }))) m)
       message k Stop z = rw (none am.forgets) refl
         where
           none : (b : Bool) → let nothing : Option ℕ = None in (if b then nothing else None) ≡ None
@@ -215,10 +234,12 @@ module _ (t : TaskView) (m : MailboxView) (raised : List ℕ) (gone : Bool) wher
           none false = refl
       message k Restart z = rw (z refl) refl
 
-      past : (k : Timer) (is : Bool) → m.timer ≡ Some k → nat_le k.deadline now ≡ is → Original.recv_timer am (if is then Some (timer_of k) else None) original ≡ as_received (take_due (if is then Some (timer_message k) else None) m)
+      past : (k : Timer) (is : Bool) → m.timer ≡ Some k → nat_le k.deadline now ≡ is → Original.recv_timer am (if is then Some (timer_of k) else None) original
+          ≡ as_received (take_due (if is then Some (timer_message k) else None) m)
       past k true e l = rw e (message k k.end (λ s. forgets k e (grind (arith, nat_tests, l)) s))
       past k false e l = queues_received
 
-      by : (k : Option Timer) → m.timer ≡ k → Original.recv_timer am (Original.is_past now (option_map timer_of k)) original ≡ as_received (take_due (due_message now k) m)
+      by : (k : Option Timer) → m.timer ≡ k → Original.recv_timer am (Original.is_past now (option_map timer_of k)) original ≡ as_received
+          (take_due (due_message now k) m)
       by None e = queues_received
       by (Some k) e = past k (nat_le k.deadline now) e refl

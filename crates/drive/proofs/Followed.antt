@@ -107,6 +107,7 @@ originals {H} {T} by_host by_terminal cs a ts b h = record {
   from_fresh = λ c e. rw e (fresh_agrees c);
 }
   where
-    amends : (c : Call) (a : Moment H T) (d : Done) (b : Moment H T) → Makes by_host by_terminal c a d b → IsUntouched by_host by_terminal all_amendments c a d b
+    amends : (c : Call) (a : Moment H T) (d : Done) (b : Moment H T) → Makes by_host by_terminal c a d b → IsUntouched by_host by_terminal all_amendments c a d
+        b
     amends (Calls.Step kind now) a d b made = λ _. record { outlasted = λ _ _ _ _ _. refl; pending = λ _ _ _ _ _ _. refl; waiting = λ _. refl }
     amends c a d b made = tt

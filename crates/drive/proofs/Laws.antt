@@ -78,7 +78,8 @@ admitted_timer p (c ∷ d ∷ cs) m = admitted_timer p (d ∷ cs) (admit p c fal
 
 -- what such a call makes of the job v, by what it answers
 abbrev KeepsIf : Call → Bool → JobView → JobView × Result Value Refusal → Type 0
-KeepsIf c closed v x = Moves (length (accepted_controls c closed x.1)) (count_by orders (accepted_controls c closed x.1)) 0 (λ s. not (collects c s)) v.mailbox x.0.mailbox × Same v x.0
+KeepsIf c closed v x = Moves (length (accepted_controls c closed x.1)) (count_by orders (accepted_controls c closed x.1)) 0 (λ s. not (collects c s)) v.mailbox
+    x.0.mailbox × Same v x.0
 
 abbrev Keeps : Call → JobView → JobView × Result Value Refusal → Type 0
 Keeps c v x = KeepsIf c v.closed v x
@@ -95,7 +96,8 @@ send_keeps s v = by v.closed
         (admit_all_moves (priority_of s) (controls_of s) v.mailbox, record { children = refl; grant = refl; owed = ap owed_starts timer })
     admits (Err r) = (still_moves refl refl, record { children = refl; grant = refl; owed = refl })
 
-    by : (closed : Bool) → KeepsIf (Calls.Send s) closed v (valued (if closed then (v, Ok 0) else Spec.after_send (Mail.send (priority_of s) (controls_of s) v.mailbox) v))
+    by : (closed : Bool)
+        → KeepsIf (Calls.Send s) closed v (valued (if closed then (v, Ok 0) else Spec.after_send (Mail.send (priority_of s) (controls_of s) v.mailbox) v))
     by true = (still_moves refl refl, record { children = refl; grant = refl; owed = refl })
     by false = admits (may_send (priority_of s) (controls_of s) v.mailbox)
 
@@ -110,7 +112,8 @@ collect_keeps ticket v = (by (known_ticket ticket) refl, grind (arith, common_st
     given (Ok false) = still_moves refl refl
     given (Err r) = still_moves refl refl
 
-    unless : (zero : Bool) → Moves 0 0 0 (λ s. not (ticket == s)) v.mailbox (if zero then (v, Ok tt) else Spec.collect_if (Spec.is_done v.closed (mark_of ticket v.mailbox.tickets.table)) ticket v).0.mailbox
+    unless : (zero : Bool) → Moves 0 0 0 (λ s. not (ticket == s)) v.mailbox (if zero then (v, Ok tt) else Spec.collect_if
+        (Spec.is_done v.closed (mark_of ticket v.mailbox.tickets.table)) ticket v).0.mailbox
     unless true = still_moves refl refl
     unless false = given (Spec.is_done v.closed (mark_of ticket v.mailbox.tickets.table))
 
@@ -151,15 +154,18 @@ module _ {H T : Type 0} (by_host : Host.Ghosts H) (by_terminal : Terminal.Ghosts
       same (Ok x) = tt
       same (Err x) = refl
 
-  unchanged : (a b : Moment H T) (r : Result Value Refusal) → OnErr r (b.job ≡ a.job) → b.host ≡ a.host → b.terminal ≡ a.terminal → b.sheet ≡ a.sheet → OnErr r (b ≡ a)
+  unchanged : (a b : Moment H T) (r : Result Value Refusal) → OnErr r (b.job ≡ a.job) → b.host ≡ a.host → b.terminal ≡ a.terminal → b.sheet ≡ a.sheet
+      → OnErr r (b ≡ a)
   unchanged a b (Ok x) e h t s = tt
   unchanged a b (Err x) e h t s =
       let same : moment b.job b.host b.terminal b.sheet ≡ a = rw (e, h, t, s) refl in
       same
 
-  quiet_goes : (c : Call) (f : JobView → JobView × Result Value Refusal) → ((v : JobView) → Keeps c v (f v)) → (a : Moment H T) (d : Done) (b : Moment H T) → AnswersAlone by_host by_terminal f a d b → Makes by_host by_terminal c a d b → Goes c a d b
+  quiet_goes : (c : Call) (f : JobView → JobView × Result Value Refusal) → ((v : JobView) → Keeps c v (f v)) → (a : Moment H T) (d : Done) (b : Moment H T)
+      → AnswersAlone by_host by_terminal f a d b → Makes by_host by_terminal c a d b → Goes c a d b
   quiet_goes c f k a d b q made =
-      let keeps : Keeps c (job_view a.job) (job_view b.job, d.answer) = subst (λ (x : JobView × Result Value Refusal). Keeps c (job_view a.job) x) (sym q.answers.answer) (k (job_view a.job)) in
+      let keeps : Keeps c (job_view a.job) (job_view b.job, d.answer) = subst (λ (x : JobView × Result Value Refusal). Keeps c (job_view a.job) x)
+          (sym q.answers.answer) (k (job_view a.job)) in
       let moves = keeps.0 in
       let same = keeps.1 in
       record {
@@ -178,7 +184,8 @@ module _ {H T : Type 0} (by_host : Host.Ghosts H) (by_terminal : Terminal.Ghosts
         starts = omega (arith, same.owed, ap (λ (x : Done). x.tally.tried) q.does, ap (λ (x : Done). x.tally.ordered) q.does);
       }
 
-  step_goes : (kind : StepKind) (time : ℕ) (a : Moment H T) (d : Done) (b : Moment H T) → Makes by_host by_terminal (Calls.Step kind time) a d b → Goes (Calls.Step kind time) a d b
+  step_goes : (kind : StepKind) (time : ℕ) (a : Moment H T) (d : Done) (b : Moment H T) → Makes by_host by_terminal (Calls.Step kind time) a d b
+      → Goes (Calls.Step kind time) a d b
   step_goes kind time a d b made =
       step_cases (λ d b. CountsSpawns by_host a d b → Goes (Calls.Step kind time) a d b) (λ r may f. still_goes (Calls.Step kind time) a (Err r) refl) by made
       (makes-spawns by_host by_terminal a (Calls.Step kind time) d b made)
@@ -189,22 +196,26 @@ module _ {H T : Type 0} (by_host : Host.Ghosts H) (by_terminal : Terminal.Ghosts
       own : ℕ
       own = (by_terminal.book a.terminal).own
 
-      by : (s : Stepped) → may_step time (length a.sheet) v ≡ Ok tt → Steps by_host by_terminal (tree_of kind own time v) a s b → CountsSpawns by_host a (step_done (Ok s) b.sheet) b → Goes (Calls.Step kind time) a (step_done (Ok s) b.sheet) b
+      by : (s : Stepped) → may_step time (length a.sheet) v ≡ Ok tt → Steps by_host by_terminal (tree_of kind own time v) a s b
+          → CountsSpawns by_host a (step_done (Ok s) b.sheet) b → Goes (Calls.Step kind time) a (step_done (Ok s) b.sheet) b
       by s may k counted =
           let trace = k.conducts.trace in
           let end = step_end b.job s in
           let free = not_closed time (length a.sheet) v may in
           let moves : Ends v end = step_moves kind time v _ end (way_of kind own time a b s k) in
           let fits = λ (h : HostBook) (u : TerminalBook) (f : Fitting v.task h u).
-              step_fits time v kind _ _ free (way_traced time v (IsAnswered by_host by_terminal) kind own a.job.granted _ _ trace end k.conducts.traces h u f) in
-          let starts : StepFits v (after (fitting_host v.task) (fitting_terminal v.task) trace) end = fits (fitting_host v.task) (fitting_terminal v.task) (fitting v.task) in
+              step_fits time v kind _ _ free (way_traced time v (IsAnswered by_host by_terminal) kind own a.job.granted _ _ trace end k.conducts.traces h u f)
+                  in
+          let starts : StepFits v (after (fitting_host v.task) (fitting_terminal v.task) trace) end =
+              fits (fitting_host v.task) (fitting_terminal v.task) (fitting v.task) in
           record {
             fair = record { issued = moves.issued; taken = moves.orders; spawned = counted; tickets = λ k l _. moves.tickets k l refl; refused = tt };
             books = λ f.
                 let host = by_host.book a.host in
                 let terminal = by_terminal.book a.terminal in
                 let step : StepFits v (after host terminal trace) end = fits host terminal (record { roster = rw free at f.roster; grants = f.grants }) in
-                record { roster = ap (λ x. x.roster) k.host_book ∙ step.roster; grants = ap (λ x. x.grants) k.terminal_book ∙ step.grants; holder = holds b.job };
+                record { roster = ap (λ x. x.roster) k.host_book ∙ step.roster; grants = ap (λ x. x.grants) k.terminal_book ∙ step.grants; holder = holds b.job
+                    };
             starts = omega (arith, starts.starts, journal-spawns trace, tried-spawns k);
           }
 
@@ -216,7 +227,8 @@ module _ {H T : Type 0} (by_host : Host.Ghosts H) (by_terminal : Terminal.Ghosts
   goes (Calls.Collect ticket) a d b r = quiet_goes (Calls.Collect ticket) (collect_value (known_ticket ticket)) (collect_keeps ticket) a d b r r
 
   -- what an accepted control step makes of a timer
-  pub control_taken : (time : ℕ) (a : Moment H T) (d : Done) (b : Moment H T) → is_ok d.answer ≡ true → Makes by_host by_terminal (Calls.Step Control time) a d b → TakesWhenDue time (job_view a.job) (job_view b.job)
+  pub control_taken : (time : ℕ) (a : Moment H T) (d : Done) (b : Moment H T) → is_ok d.answer ≡ true → Makes by_host by_terminal (Calls.Step Control time) a d
+      b → TakesWhenDue time (job_view a.job) (job_view b.job)
   control_taken time a d b k made =
       let step = accepted made k in
       (control_accepted time a b step.0 (a.job.in_order (not_closed time (length a.sheet) (job_view a.job) step.1)) step.2).0
@@ -226,12 +238,14 @@ in_one_place : (s : ℕ) (m : MailboxView) → IsInOrder [] m → place_count s 
 in_one_place s m h = omega (arith, h.balance (one_at s), one_standing s m.tickets.table (h.once s))
 
 -- calls that are linked by one relation are by another that follows from it
-pub linked_so : {M : Type 0} (R S : Call → M → Done → M → Type 0) → ((c : Call) (a : M) (d : Done) (b : M) → R c a d b → S c a d b) → (cs : List Call) (a : M) (ts : List (Turn M)) (b : M) → Linked R cs a ts b → Linked S cs a ts b
+pub linked_so : {M : Type 0} (R S : Call → M → Done → M → Type 0) → ((c : Call) (a : M) (d : Done) (b : M) → R c a d b → S c a d b)
+    → (cs : List Call) (a : M) (ts : List (Turn M)) (b : M) → Linked R cs a ts b → Linked S cs a ts b
 linked_so R S k [] a ts b h = h
 linked_so R S k (c ∷ cs) a ts b h = (h.0, h.1, h.2, k c a h.0.did h.0.at h.3, linked_so R S k cs h.0.at h.1 b h.4)
 
 -- the first turn, and those behind it
-pub linked_first : {M : Type 0} (R : Call → M → Done → M → Type 0) (c : Call) (cs : List Call) (a : M) (t : Turn M) (ts : List (Turn M)) (b : M) → Linked R (c ∷ cs) a (t ∷ ts) b → R c a t.did t.at × Linked R cs t.at ts b
+pub linked_first : {M : Type 0} (R : Call → M → Done → M → Type 0) (c : Call) (cs : List Call) (a : M) (t : Turn M) (ts : List (Turn M)) (b : M)
+    → Linked R (c ∷ cs) a (t ∷ ts) b → R c a t.did t.at × Linked R cs t.at ts b
 linked_first R c cs a t ts b h =
     let same : t ≡ h.0 = cc h.2 in
     let others : ts ≡ h.1 = cc h.2 in

@@ -35,7 +35,8 @@ use Rattle.drive.proofs.Flagged.{MatchesTickets, state_of, original_of, same_ori
 -- ONE STEP
 
 -- a trace of a tree whose value something is made of
-pub traces_made : {S A B : Type 0} (did : S → (c : Call) → Reply c → S → Type 0) (t : Interaction A) (g : A → B) (s s' : S) (p : List Event) (y : B) → Traces did (bind t (λ x. done (g x))) s p y s' → (x : A) × Traces did t s p x s' × (y ≡ g x)
+pub traces_made : {S A B : Type 0} (did : S → (c : Call) → Reply c → S → Type 0) (t : Interaction A) (g : A → B) (s s' : S) (p : List Event) (y : B)
+    → Traces did (bind t (λ x. done (g x))) s p y s' → (x : A) × Traces did t s p x s' × (y ≡ g x)
 traces_made did (done x) g s s' p y h = (x, (h.0, refl, h.2), h.1)
 traces_made did (ask c k) g s s' p y h =
     let rest = traces_made did (k h.0) g h.1 s' h.2 y h.5 in
@@ -49,13 +50,16 @@ spoken : (X : Type 0) (p : List Event) → (list_any is_launch (journal p) ≡ t
 spoken X [] k = tt
 spoken X ((c, a) ∷ p) k = ((λ e. k (grind (arith, common_steps, e))), spoken X p (λ e. k (grind (arith, common_steps, e))))
 
-module _ {W : Type 0} (did : W → (c : Call) → Reply c → W → Type 0) (am : Amendments) (now : ℕ) (v : JobView) (free : v.closed ≡ false) (granted : GrantMeansRunning v.task) (order : IsInOrder [] v.mailbox) (w w' : W) (p : List Event) (s : StepEnd) where
+module _ {W : Type 0} (did : W → (c : Call) → Reply c → W → Type 0) (am : Amendments) (now : ℕ) (v : JobView) (free : v.closed ≡ false)
+    (granted : GrantMeansRunning v.task) (order : IsInOrder [] v.mailbox) (w w' : W) (p : List Event) (s : StepEnd) where
   -- what the original comes to, given the answers of a step's trace
   abbrev Comes : Interaction Original.Original → Type 0
   Comes u = (o' : Original.Original) × Follows u (heard_calls p) o' × Agrees s.view o'
 
   -- a tree that goes on as the original's does, and what is made of its value
-  end_comes : {A : Type 0} (P : (c : Call) → Reply c → Type 0) (R : A → Original.Original → Type 0) (t : Interaction A) (u : Interaction Original.Original) (g : A → StepEnd) → Like P R t u → Spoken P p → ((x : A) → Traces did t w p x w' → (o : Original.Original) → R x o → Agrees (g x).view o) → Traces did (bind t (λ x. done (g x))) w p s w' → Comes u
+  end_comes : {A : Type 0} (P : (c : Call) → Reply c → Type 0) (R : A → Original.Original → Type 0) (t : Interaction A) (u : Interaction Original.Original)
+      (g : A → StepEnd) → Like P R t u → Spoken P p → ((x : A) → Traces did t w p x w' → (o : Original.Original) → R x o → Agrees (g x).view o)
+      → Traces did (bind t (λ x. done (g x))) w p s w' → Comes u
   end_comes P R t u g like spoke agrees run =
       let x = traces_made did t g w w' p s run in
       let y = like_follows P did R t u w w' p x.0 like x.1 spoke in
@@ -65,7 +69,9 @@ module _ {W : Type 0} (did : W → (c : Call) → Reply c → W → Type 0) (am 
   abbrev Drops : Type 0
   Drops = (if am.drops then [] else v.task.foreground.pauses) ≡ []
 
-  control_comes : (r : Message.Received) (n : MailboxView) → Mail.take now v.mailbox ≡ Some (r, n) → (raised : List ℕ) → MatchesTickets v.closed v.mailbox.tickets raised → IsApart am Kinds.Control now v (journal p) → Traces did (carry_out (Some (r, n)) now v) w p s w' → Comes (Original.arm am r.message.control now r.message.ticket (state_of v.task n raised v.closed))
+  control_comes : (r : Message.Received) (n : MailboxView) → Mail.take now v.mailbox ≡ Some (r, n) → (raised : List ℕ)
+      → MatchesTickets v.closed v.mailbox.tickets raised → IsApart am Kinds.Control now v (journal p) → Traces did (carry_out (Some (r, n)) now v) w p s w'
+      → Comes (Original.arm am r.message.control now r.message.ticket (state_of v.task n raised v.closed))
   control_comes r n e raised h apart run =
       let c = r.message.control in
       let t = r.message.ticket in
@@ -87,10 +93,13 @@ module _ {W : Type 0} (did : W → (c : Call) → Reply c → W → Type 0) (am 
       at_once c state k = tt
 
   -- a turn of the loop
-  turn_comes : (kind : StepKind) (own : ℕ) (raised : List ℕ) → MatchesTickets v.closed v.mailbox.tickets raised → IsApart am kind now v (journal p) → Traces did (tree_of kind own now v) w p s w' → Comes (Original.branch am kind own now (original_of v raised))
-  turn_comes Kinds.Control own raised h apart run = rw (recv-received v.task v.mailbox raised v.closed am now (apart.outlasted refl)) (by (Mail.take now v.mailbox) refl run)
+  turn_comes : (kind : StepKind) (own : ℕ) (raised : List ℕ) → MatchesTickets v.closed v.mailbox.tickets raised → IsApart am kind now v (journal p)
+      → Traces did (tree_of kind own now v) w p s w' → Comes (Original.branch am kind own now (original_of v raised))
+  turn_comes Kinds.Control own raised h apart run = rw (recv-received v.task v.mailbox raised v.closed am now (apart.outlasted refl))
+      (by (Mail.take now v.mailbox) refl run)
     where
-      by : (k : TakeResult) → Mail.take now v.mailbox ≡ k → Traces did (carry_out k now v) w p s w' → Comes (Original.control_branch am now (as_received v.task v.mailbox raised v.closed k) (original_of v raised))
+      by : (k : TakeResult) → Mail.take now v.mailbox ≡ k → Traces did (carry_out k now v) w p s w'
+          → Comes (Original.control_branch am now (as_received v.task v.mailbox raised v.closed k) (original_of v raised))
       by None e run = rw (run.0, run.1) (original_of v raised, (refl, refl, refl), agree h)
       by (Some (r, n)) e run = control_comes r n e raised h apart run
   turn_comes Kinds.Child own raised h apart run =
@@ -101,5 +110,6 @@ module _ {W : Type 0} (did : W → (c : Call) → Reply c → W → Type 0) (am 
       let f = original_of v raised in
       end_comes (Speaks ⊤) (Paused f) _ _ (pause_end now v) (pause_like (Speaks ⊤) f own v.task) (spoken ⊤ p (λ _. tt)) (λ x _ o z. rw z (agree h)) run
 
-  pub branch_comes : (kind : StepKind) (own : ℕ) (o : Original.Original) → Agrees v o → IsApart am kind now v (journal p) → Traces did (tree_of kind own now v) w p s w' → Comes (Original.branch am kind own now o)
+  pub branch_comes : (kind : StepKind) (own : ℕ) (o : Original.Original) → Agrees v o → IsApart am kind now v (journal p)
+      → Traces did (tree_of kind own now v) w p s w' → Comes (Original.branch am kind own now o)
   branch_comes kind own o a apart run = rw (same_original a) (turn_comes kind own o.raised (tickets_match a) apart run)

@@ -31,13 +31,17 @@ CountsSpawns by_host a d b = (by_host.book b.host).spawns % 2 ^ 64 ≡ ((by_host
 
 module _ {H T : Type 0} {by_host : Host.Ghosts H} {by_terminal : Terminal.Ghosts T} where
   -- the starts that a step tried are the spawns of its trace
-  pub tried-spawns : {tree : Interaction StepEnd} {a b : Moment H T} {s : Stepped} (k : Steps by_host by_terminal tree a s b) → spawns_among (take s.records b.sheet) ≡ spawns_in k.conducts.trace
+  pub tried-spawns : {tree : Interaction StepEnd} {a b : Moment H T} {s : Stepped} (k : Steps by_host by_terminal tree a s b)
+      → spawns_among (take s.records b.sheet) ≡ spawns_in k.conducts.trace
   tried-spawns {a = a} k =
       let p = k.conducts.trace in
       cc (take_at (journal p) (drop (length p) a.sheet) (length p) (journal-length p), journal-spawns p, k.conducts.count, k.conducts.sheet)
 
   -- what holds of a step: it was refused and changed nothing, or accepted
-  pub step_cases : {tree : ℕ → JobView → Interaction StepEnd} {time : ℕ} {a b : Moment H T} {d : Done} (P : Done → Moment H T → Type 0) → ((r : Refusal) → may_step time (length a.sheet) (job_view a.job) ≡ Err r → P (done_without (Err r)) a) → ((s : Stepped) → may_step time (length a.sheet) (job_view a.job) ≡ Ok tt → Steps by_host by_terminal (tree time (job_view a.job)) a s b → P (step_done (Ok s) b.sheet) b) → MakesStep by_host by_terminal tree time a d b → P d b
+  pub step_cases : {tree : ℕ → JobView → Interaction StepEnd} {time : ℕ} {a b : Moment H T} {d : Done} (P : Done → Moment H T → Type 0)
+      → ((r : Refusal) → may_step time (length a.sheet) (job_view a.job) ≡ Err r → P (done_without (Err r)) a)
+      → ((s : Stepped) → may_step time (length a.sheet) (job_view a.job) ≡ Ok tt → Steps by_host by_terminal (tree time (job_view a.job)) a s b
+      → P (step_done (Ok s) b.sheet) b) → MakesStep by_host by_terminal tree time a d b → P d b
   step_cases {tree} {time} {a} {b} {d} P refused accepted made = by made.answer made.step made.does
     where
       by : (r : Result Stepped Refusal) → StepsOrRefuses by_host by_terminal tree time a r b → d ≡ step_done r b.sheet → P d b
@@ -45,16 +49,21 @@ module _ {H T : Type 0} {by_host : Host.Ghosts H} {by_terminal : Terminal.Ghosts
       by (Err r) h e = rw (e, h.1) (refused r h.0)
 
   -- a step that was granted is an accepted one
-  pub accepted : {tree : ℕ → JobView → Interaction StepEnd} {time : ℕ} {a b : Moment H T} {d : Done} → MakesStep by_host by_terminal tree time a d b → is_ok d.answer ≡ true → (s : Stepped) × (may_step time (length a.sheet) (job_view a.job) ≡ Ok tt) × Steps by_host by_terminal (tree time (job_view a.job)) a s b × (d ≡ step_done (Ok s) b.sheet)
+  pub accepted : {tree : ℕ → JobView → Interaction StepEnd} {time : ℕ} {a b : Moment H T} {d : Done} → MakesStep by_host by_terminal tree time a d b
+      → is_ok d.answer ≡ true → (s : Stepped) × (may_step time (length a.sheet) (job_view a.job) ≡ Ok tt) × Steps by_host by_terminal
+      (tree time (job_view a.job)) a s b × (d ≡ step_done (Ok s) b.sheet)
   accepted {tree} {time} {a} made k =
-      step_cases (λ d b. is_ok d.answer ≡ true → (s : Stepped) × (may_step time (length a.sheet) (job_view a.job) ≡ Ok tt) × Steps by_host by_terminal (tree time (job_view a.job)) a s b × (d ≡ step_done (Ok s) b.sheet)) (λ r may k. cc k) (λ s may step k. (s, may, step, refl)) made k
+      step_cases (λ d b. is_ok d.answer ≡ true → (s : Stepped) × (may_step time (length a.sheet) (job_view a.job) ≡ Ok tt) × Steps by_host by_terminal
+          (tree time (job_view a.job)) a s b × (d ≡ step_done (Ok s) b.sheet)) (λ r may k. cc k) (λ s may step k. (s, may, step, refl)) made k
 
 module _ {H T : Type 0} (by_host : Host.Ghosts H) (by_terminal : Terminal.Ghosts T) (a : Moment H T) where
   -- a call tries at most one start, and takes at most one order
   pub makes_few : (c : Call) (d : Done) (b : Moment H T) → Makes by_host by_terminal c a d b → (d.tally.tried ≤ 1) × (d.tally.ordered ≤ 1)
-  makes_few (Step kind time) d b r = step_cases (λ d b. (d.tally.tried ≤ 1) × (d.tally.ordered ≤ 1)) (λ r may. grind arith) (λ s may k. grind (arith, tried-spawns k, k.starts)) r
+  makes_few (Step kind time) d b r = step_cases (λ d b. (d.tally.tried ≤ 1) × (d.tally.ordered ≤ 1)) (λ r may. grind arith)
+      (λ s may k. grind (arith, tried-spawns k, k.starts)) r
   makes_few c d b r = grind arith
 
   pub makes-spawns : (c : Call) (d : Done) (b : Moment H T) → Makes by_host by_terminal c a d b → CountsSpawns by_host a d b
-  makes-spawns (Step kind time) d b r = step_cases (CountsSpawns by_host a) (λ r may. grind arith) (λ s may k. grind (arith, k.host_book, along_spawns (by_host.book a.host) k.conducts.trace, tried-spawns k)) r
+  makes-spawns (Step kind time) d b r = step_cases (CountsSpawns by_host a) (λ r may. grind arith)
+      (λ s may k. grind (arith, k.host_book, along_spawns (by_host.book a.host) k.conducts.trace, tried-spawns k)) r
   makes-spawns c d b r = grind arith
