@@ -11,7 +11,7 @@ use Rattle.host.specs.Calls.{Call, Reply, to_host, to_terminal, spawn}
 use Rattle.host.specs.Calls as Calls
 use Rattle.host.specs.Interaction.{Interaction, done, bind, call}
 use Rattle.host.specs.Command.{wants_grant}
-use Rattle.host.specs.State.{is_running, kept_run}
+use Rattle.host.specs.State.{is_running}
 use Rattle.task.specs.declared.messages.Control.{Control}
 use Rattle.task.specs.declared.messages.Control.TheVariants.{Start, Stop, GracefulStop, TryRestart, TryGracefulRestart, ContinueTryGracefulRestart, Signal, Delete, NextEnding, Func}
 use Rattle.task.specs.declared.messages.GraceEnd.{GraceEnd}
@@ -33,8 +33,16 @@ Flags = Original.Original
 -- the original with the task t
 abbrev pub with_task : TaskView → Flags → Original.Original
 with_task t f = record f {
-  command = t.command; pause_rx = t.foreground.pauses; error_handler = t.settings.handler; spawn_hook = t.settings.hook; spawner = t.settings.way;
-  command_state = t.state; previous_run = t.previous; foreground_grant = t.foreground.grant; pause_watch = t.foreground.watch; paused = t.foreground.paused;
+  command = t.command;
+  pause_rx = t.foreground.pauses;
+  error_handler = t.settings.handler;
+  spawn_hook = t.settings.hook;
+  spawner = t.settings.way;
+  command_state = t.state;
+  previous_run = t.previous;
+  foreground_grant = t.foreground.grant;
+  pause_watch = t.foreground.watch;
+  paused = t.foreground.paused;
 }
 
 -- the flags once the control of this flag has had that outcome
@@ -168,7 +176,7 @@ module _ (am : Amendments) (ps : List ℕ) (P : (c : Call) → Reply c → Type 
   way_like R f t g h e rest =
       let resume = resume_like t.foreground.paused t.state t f e in
       let way = then_like (Same f) f (Tree.resume t) (Original.resume_paused_command (with_task t f)) Tree.yield Original.reclaim resume
-          (λ x d. reclaim_like x.foreground.grant x f refl d) in
+      (λ x d. reclaim_like x.foreground.grant x f refl d) in
       then_like R f (Tree.make_way t) (Original.resume_and_reclaim (with_task t f)) g h way rest
 
   -- a fault is told on both sides

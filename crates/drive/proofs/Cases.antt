@@ -5,7 +5,6 @@ use Rattle.std.specs.Int.{from_bool}
 use Rattle.std.specs.List.{count_by, filter}
 use Rattle.std.proofs.lemmas.Bool.Decides.{nat_tests}
 use Rattle.std.proofs.lemmas.Grind.{common_steps}
-use Rattle.host.specs.declared.journal.CallKind.TheVariants.{Spawn, Wait, Kill}
 use Rattle.host.specs.declared.process.Host as Host
 use Rattle.host.specs.declared.terminal.Terminal as Terminal
 use Rattle.host.specs.Calls.{Call, Reply, Event}
@@ -22,21 +21,19 @@ use Rattle.task.specs.declared.task.Outcome.TheVariants.{Settled, Joined}
 use Rattle.task.specs.Task as Tree
 use Rattle.task.proofs.Courses.{found_end}
 use Rattle.task.proofs.Sheets.{records_are}
-use Rattle.supervisor.specs.declared.answers.StepKind.{StepKind}
 use Rattle.supervisor.specs.declared.answers.StepKind.TheVariants as Kinds
-use Rattle.supervisor.specs.declared.answers.Stepped.{Stepped}
 use Rattle.supervisor.specs.declared.errors.Refusal.{Refusal}
-use Rattle.supervisor.specs.declared.errors.Refusal.TheVariants.{Sheet, Clock, Grace, Queue}
+use Rattle.supervisor.specs.declared.errors.Refusal.TheVariants.{Sheet, Clock, Queue}
 use Rattle.supervisor.specs.declared.mailbox.Received.{Received}
 use Rattle.supervisor.specs.declared.mailbox.Source.TheVariants as Sources
-use Rattle.supervisor.specs.declared.queues.Priority.TheVariants.{Normal, High}
+use Rattle.supervisor.specs.declared.queues.Priority.TheVariants.{High}
 use Rattle.supervisor.specs.declared.sends.Send.TheVariants as Sends
 use Rattle.supervisor.specs.declared.timer.Timer.{Timer}
 use Rattle.supervisor.specs.Job as Job
 use Rattle.supervisor.specs.Job.{JobView, StepEnd, look, may_step, control_step, child_step, control_end, carry_out, tree_of}
 use Rattle.supervisor.specs.Mailbox as Mail
 use Rattle.supervisor.specs.Mailbox.{MailboxView, has_room, may_send, message_from, with_queues}
-use Rattle.supervisor.specs.Steps.{Moment, step_end, StepsOrRefuses}
+use Rattle.supervisor.specs.Steps.{Moment, step_end}
 use Rattle.supervisor.specs.Timers.{memory_of, memory, owed_starts}
 use Rattle.supervisor.proofs.Graces.{continue_way}
 use Rattle.supervisor.proofs.Steps.{way_of}
@@ -44,7 +41,6 @@ use Rattle.drive.specs.declared.calls.Call.TheVariants as Calls
 use Rattle.drive.specs.declared.calls.Done.{Done}
 use Rattle.drive.specs.declared.calls.Value.{Value}
 use Rattle.drive.specs.declared.calls.Value.TheVariants.{Ticket}
-use Rattle.drive.specs.Answers.{step_done}
 use Rattle.drive.specs.Calls.{Makes, MakesStep, as_value, send_value}
 use Rattle.drive.specs.Cases.{records, MeetsCases}
 use Rattle.drive.specs.Laws.{job_at}
@@ -88,14 +84,14 @@ waited did now ticket v m answer free later none urgent high sent ok w w' p s ru
         let r = message_from (Mail.message NextEnding (v.mailbox.tickets.issued + 1)) Sources.Queue in
         let n = with_queues (record (Mail.admit High NextEnding true v.mailbox).queues { high = [] }) (Mail.admit High NextEnding true v.mailbox) in
         let taken : Mail.take now w₁.mailbox ≡ Some (r, n) = take_only now (Mail.admit High NextEnding true v.mailbox)
-            (Mail.message NextEnding (v.mailbox.tickets.issued + 1)) none urgent (ap (λ cs. cs ++ Mail.message NextEnding (v.mailbox.tickets.issued + 1) ∷ [])
-            high) in
+        (Mail.message NextEnding (v.mailbox.tickets.issued + 1)) none urgent (ap (λ cs. cs ++ Mail.message NextEnding (v.mailbox.tickets.issued + 1) ∷ [])
+        high) in
         let sent : Traces did (control_step now w₁) w p s w' = subst (λ (u : JobView). Traces did (control_step now u) w p s w') z run in
         let done : Traces did (carry_out (Some (r, n)) now w₁) w p s w' = subst (λ (k : Mail.TakeResult). Traces did (carry_out k now w₁) w p s w') taken sent
-            in
+        in
         subst (λ (t : ℕ). look t s.view ≡ Ok (not (is_running v.task.state))) (sym e)
         (subst (λ (u : StepEnd). look (v.mailbox.tickets.issued + 1) u.view ≡ Ok (not (is_running v.task.state))) (sym done.1)
-            (waited_look now v room (later (v.mailbox.tickets.issued + 1) (omega arith)) r n refl refl))
+        (waited_look now v room (later (v.mailbox.tickets.issued + 1) (omega arith)) r n refl refl))
 
     sends : (r : Result ⊤ Refusal) → may_send High (NextEnding ∷ []) v.mailbox ≡ r
         → (m, answer) ≡ valued (Job.after_send (Mail.send_if r High (NextEnding ∷ []) v.mailbox) v) → look ticket s.view ≡ Ok (not (is_running v.task.state))
@@ -130,9 +126,9 @@ module _ {H T : Type 0} (by_host : Host.Ghosts H) (by_terminal : Terminal.Ghosts
   within t now a d b p l made =
       step_cases (λ d b. 1 ≤ count_by reports_end (records d b) → d.tally.tried ≡ 1) (λ r may l. absurd (grind (arith, common_steps, l)))
       (λ s may step l.
-          let way = way_of Kinds.Child 0 now a b s step in
-          let wrote = records_are step.conducts in
-          ap spawns_among wrote ∙ way.1.starts ∙ one _ (found_end way.0.1) restart (omega (arith, way.1.ends, rw wrote at l)))
+      let way = way_of Kinds.Child 0 now a b s step in
+      let wrote = records_are step.conducts in
+      ap spawns_among wrote ∙ way.1.starts ∙ one _ (found_end way.0.1) restart (omega (arith, way.1.ends, rw wrote at l)))
       made l
     where
       restart : is_some (memory (job_at a).mailbox.timer) ≡ true

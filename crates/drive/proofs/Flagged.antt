@@ -60,11 +60,26 @@ each_matches [] k once made h = h
 each_matches (t ∷ ts) k {closed} {raised} once made h =
     let one = record k { table = raise t k.table } in
     let first : MatchesTickets closed one (t ∷ raised) =
-        record { later = λ s l. grind (arith, common_steps, made s l, h.later s l); same = λ e s i j. grind (arith, common_steps, raise-settled s t k.table
-        (once s), h.same e s i j) } in
+    record {
+      later = λ s l. grind (arith, common_steps, made s l, h.later s l);
+      same = λ e s i j. grind (
+        arith,
+        common_steps,
+        raise-settled s t k.table
+            (once s),
+        h.same e s i j,
+      );
+    } in
     let rest = each_matches ts one (once_each (t ∷ []) k.table once) (λ s l. grind (arith, common_steps, made s l)) first in
-    record { later = λ s l. grind (arith, common_steps, list_any-append, rest.later s l); same = λ e s i j. grind (arith, common_steps, list_any-append,
-        rest.same e s i j) }
+    record {
+      later = λ s l. grind (arith, common_steps, list_any-append, rest.later s l);
+      same = λ e s i j. grind (
+        arith,
+        common_steps,
+        list_any-append,
+        rest.same e s i j,
+      );
+    }
 
 -- a ticket that weighs nothing in a list is not in it
 none_weighs : (s : ℕ) (ts : List ℕ) → weigh (one_at s) ts ≡ 0 → is_raised s ts ≡ false
@@ -89,10 +104,25 @@ timer_made m t e h s l = none_weighs s (t.ticket ∷ []) (grind (arith, none_lat
 -- the original with a task, a mailbox, the raised flags, and whether the job is closed
 abbrev pub state_of : TaskView → MailboxView → List ℕ → Bool → Original.Original
 state_of t m raised gone = record {
-  command = t.command; pause_rx = t.foreground.pauses; error_handler = t.settings.handler; spawn_hook = t.settings.hook; spawner = t.settings.way;
-  command_state = t.state; previous_run = t.previous; foreground_grant = t.foreground.grant; pause_watch = t.foreground.watch; paused = t.foreground.paused;
-  normal = map message_of m.queues.normal; high = map message_of m.queues.high; urgent = map message_of m.queues.urgent;
-  stop_timer = option_map timer_of m.timer; on_end_restart = memory m.timer; on_end = m.ending; flags = m.tickets.issued; raised = raised; gone = gone;
+  command = t.command;
+  pause_rx = t.foreground.pauses;
+  error_handler = t.settings.handler;
+  spawn_hook = t.settings.hook;
+  spawner = t.settings.way;
+  command_state = t.state;
+  previous_run = t.previous;
+  foreground_grant = t.foreground.grant;
+  pause_watch = t.foreground.watch;
+  paused = t.foreground.paused;
+  normal = map message_of m.queues.normal;
+  high = map message_of m.queues.high;
+  urgent = map message_of m.queues.urgent;
+  stop_timer = option_map timer_of m.timer;
+  on_end_restart = memory m.timer;
+  on_end = m.ending;
+  flags = m.tickets.issued;
+  raised = raised;
+  gone = gone;
 }
 
 abbrev pub original_of : JobView → List ℕ → Original.Original
@@ -140,7 +170,7 @@ settle_agrees now before r m (t, Settled) order free h = agree (each_matches (r.
 settle_agrees now before r m (t, Ended) order free h =
     let ended = each_matches m.ending m.tickets order.once (ending_made order) h in
     agree (each_matches (r.message.ticket ∷ []) (record m.tickets { table = raise_each m.ending m.tickets.table })
-        (once_each m.ending m.tickets.table order.once) (hand_made order) ended)
+    (once_each m.ending m.tickets.table order.once) (hand_made order) ended)
 settle_agrees now before r m (t, Graced grace Stop) order free h = rw (free refl) (agree h)
 settle_agrees now before r m (t, Graced grace Restart) order free h = agree h
 settle_agrees now before r m (t, Joined) order free h = agree h
@@ -160,7 +190,7 @@ poll_agrees now v x {raised} order h = by v.mailbox.timer x.1 order
         let m = with_timer (Some t) v.mailbox in
         let one = each_matches (t.ticket ∷ []) m.tickets order.once (timer_made m t refl order) h in
         each_matches m.ending (record m.tickets { table = raise t.ticket m.tickets.table }) (once_each (t.ticket ∷ []) m.tickets.table order.once)
-            (ending_made order) one
+        (ending_made order) one
 
     by : (k : Option Timer) (o : PollOutcome) → IsInOrder [] (with_timer k v.mailbox)
         → Agrees (poll_end now (record v { mailbox = with_timer k v.mailbox }) (x.0, o)).view

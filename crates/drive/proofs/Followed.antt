@@ -1,5 +1,5 @@
 -- The original follows a run of the job, call by call.
-use Rattle.std.proofs.Common.{◌≡◌, ℕ, true, is_ok, Ok, Err, Result, List, [], ◌∷◌, length, take, refl, sym, ap, subst, ◌∙◌, arith}
+use Rattle.std.proofs.Common.{◌≡◌, ℕ, true, is_ok, Ok, Err, Result, List, [], ◌∷◌, length, refl, sym, ap, subst, ◌∙◌, arith}
 use Rattle.std.specs.Prelude.{OnErr}
 use Rattle.host.specs.declared.command.Command.{Command}
 use Rattle.host.specs.declared.journal.Record.{Record}
@@ -9,19 +9,17 @@ use Rattle.host.specs.Interaction.{IsAnswered}
 use Rattle.host.specs.Journal.{journal}
 use Rattle.task.proofs.Sheets.{records_are}
 use Rattle.supervisor.specs.declared.answers.StepKind.{StepKind}
-use Rattle.supervisor.specs.declared.answers.Stepped.{Stepped}
 use Rattle.supervisor.specs.declared.errors.Refusal.{Refusal}
 use Rattle.supervisor.specs.Job as Job
 use Rattle.supervisor.specs.Job.{JobView, may_step, tree_of}
-use Rattle.supervisor.specs.Steps.{Moment, job_view, step_end, Steps}
+use Rattle.supervisor.specs.Steps.{Moment, job_view, step_end}
 use Rattle.supervisor.proofs.Steps.{not_closed}
 use Rattle.drive.specs.declared.calls.Call.{Call}
 use Rattle.drive.specs.declared.calls.Call.TheVariants as Calls
 use Rattle.drive.specs.declared.calls.Done.{Done}
-use Rattle.drive.specs.Answers.{step_done}
 use Rattle.drive.specs.declared.calls.Value.{Value}
-use Rattle.drive.specs.Calls.{Makes, AnswersAlone, known_ticket, send_value, pause_value, collect_value}
-use Rattle.drive.specs.Follows.{Agrees, IsApart, MakesSameCalls, own, Does, DoesIf, IsUntouched, Follow, MatchesOriginal}
+use Rattle.drive.specs.Calls.{Makes, AnswersAlone}
+use Rattle.drive.specs.Follows.{Agrees, IsApart, own, Does, DoesIf, IsUntouched, Follow, MatchesOriginal}
 use Rattle.drive.specs.Original as Original
 use Rattle.drive.specs.Original.{Amendments, all_amendments, no_amendments}
 use Rattle.drive.specs.Turns.{Turn, Linked}
@@ -63,13 +61,13 @@ module _ {H T : Type 0} (by_host : Host.Ghosts H) (by_terminal : Terminal.Ghosts
       let c = Calls.Step kind now in
       step_cases (λ d b. Untouched c a d b → Comes c a o d b) (λ r may u. (o, refl, agrees))
       (λ s may k u.
-          let v = job_view a.job in
-          let run = k.conducts in
-          let apart : IsApart am kind now v (journal run.trace) = subst (λ (rs : List Record). IsApart am kind now v rs) (records_are run) (u refl) in
-          let free = not_closed now (length a.sheet) v may in
-          let o' = branch_comes (IsAnswered by_host by_terminal) am now v free a.job.granted (a.job.in_order free) _ _ run.trace (step_end b.job s)
-              kind (own by_host by_terminal a) o agrees apart run.traces in
-          (o'.0, record { calls = run.trace; end = step_end b.job s; made = run.traces; left = refl; recorded = records_are run; original = o'.1 }, o'.2))
+      let v = job_view a.job in
+      let run = k.conducts in
+      let apart : IsApart am kind now v (journal run.trace) = subst (λ (rs : List Record). IsApart am kind now v rs) (records_are run) (u refl) in
+      let free = not_closed now (length a.sheet) v may in
+      let o' = branch_comes (IsAnswered by_host by_terminal) am now v free a.job.granted (a.job.in_order free) _ _ run.trace (step_end b.job s)
+      kind (own by_host by_terminal a) o agrees apart run.traces in
+      (o'.0, record { calls = run.trace; end = step_end b.job s; made = run.traces; left = refl; recorded = records_are run; original = o'.1 }, o'.2))
       made untouched
 
   comes : (c : Call) (a : Moment H T) (o : Original.Original) (d : Done) (b : Moment H T) → Agrees (job_view a.job) o → Untouched c a d b

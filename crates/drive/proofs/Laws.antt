@@ -1,5 +1,5 @@
 -- The laws of a run: each call is fair, books that fit the job fit it again, and no start is tried that was not ordered.
-use Rattle.std.proofs.Common.{◌≡◌, ℕ, Bool, true, false, Some, None, Ok, Err, Result, length, refl, sym, ap, subst, arith, ◌+◌, ◌≤◌, is_ok, List, [], ◌∷◌, if◌then◌else◌, ◌∙◌, is_some, Option}
+use Rattle.std.proofs.Common.{◌≡◌, ℕ, Bool, true, false, Some, None, Ok, Err, Result, length, refl, sym, ap, subst, arith, ◌+◌, ◌≤◌, is_ok, List, [], ◌∷◌, if◌then◌else◌, ◌∙◌, is_some}
 use Rattle.std.proofs.lemmas.Bool.Decides.{nat_tests}
 use Rattle.std.proofs.lemmas.Grind.{common_steps}
 use Rattle.std.specs.Int.{from_bool}
@@ -22,11 +22,11 @@ use Rattle.supervisor.proofs.Steps.{way_of, not_closed}
 use Rattle.supervisor.proofs.Ways.{Way, StepFits, step_fits, way_traced, one_at_most}
 use Rattle.supervisor.specs.Job.{JobView, StepEnd, send, look, collect, control_end, carry_out, poll_end, pause_end, tree_of, children_of, runs, may_step}
 use Rattle.supervisor.specs.Job as Spec
-use Rattle.supervisor.specs.Laws.{TakesWhenDue, Pends}
+use Rattle.supervisor.specs.Laws.{TakesWhenDue}
 use Rattle.supervisor.specs.Mailbox as Mail
 use Rattle.supervisor.specs.Mailbox.{TakeResult, take, may_send, MailboxView, admit_all, admit}
 use Rattle.supervisor.specs.Sends.{priority_of, controls_of}
-use Rattle.supervisor.specs.Steps.{Moment, moment, job_view, step_end, StepsOrRefuses, Steps}
+use Rattle.supervisor.specs.Steps.{Moment, moment, job_view, step_end, Steps}
 use Rattle.supervisor.specs.Timers.{owed_starts, memory}
 use Rattle.supervisor.specs.declared.answers.StepKind.{StepKind}
 use Rattle.supervisor.specs.declared.answers.StepKind.TheVariants.{Control, Child, Pause}
@@ -35,7 +35,6 @@ use Rattle.supervisor.specs.declared.errors.Refusal.{Refusal}
 use Rattle.supervisor.specs.declared.job.Job.{Job}
 use Rattle.supervisor.specs.declared.queues.Priority.{Priority}
 use Rattle.supervisor.specs.declared.sends.Send.{Send}
-use Rattle.supervisor.specs.declared.timer.Timer.{Timer}
 use Rattle.supervisor.specs.Sound.{IsInOrder}
 use Rattle.drive.specs.Answers.{done_without, step_done}
 use Rattle.drive.specs.Calls.{Makes, AnswersAlone, known_ticket, as_value, send_value, pause_value, look_value, collect_value}
@@ -46,7 +45,7 @@ use Rattle.drive.specs.declared.calls.Done.{Done}
 use Rattle.drive.specs.declared.calls.Value.{Value}
 use Rattle.drive.specs.declared.calls.Value.TheVariants.{Ticket}
 use Rattle.drive.specs.declared.calls.Call.TheVariants.{Step}
-use Rattle.drive.specs.Restarts.{RestartPends, KeepsRestartLaws}
+use Rattle.drive.specs.Restarts.{KeepsRestartLaws}
 use Rattle.drive.specs.Turns.{Turn, Linked, tried_in, ordered_in}
 use Rattle.drive.proofs.Mailboxes.{Moves, any, still_moves, carried_moves, settle_poll_moves, admit_all_moves, vacate_moves}
 use Rattle.drive.proofs.Steps.{CountsSpawns, step_cases, makes-spawns, accepted, tried-spawns}
@@ -165,7 +164,7 @@ module _ {H T : Type 0} (by_host : Host.Ghosts H) (by_terminal : Terminal.Ghosts
       → AnswersAlone by_host by_terminal f a d b → Makes by_host by_terminal c a d b → Goes c a d b
   quiet_goes c f k a d b q made =
       let keeps : Keeps c (job_view a.job) (job_view b.job, d.answer) = subst (λ (x : JobView × Result Value Refusal). Keeps c (job_view a.job) x)
-          (sym q.answers.answer) (k (job_view a.job)) in
+      (sym q.answers.answer) (k (job_view a.job)) in
       let moves = keeps.0 in
       let same = keeps.1 in
       record {
@@ -204,18 +203,21 @@ module _ {H T : Type 0} (by_host : Host.Ghosts H) (by_terminal : Terminal.Ghosts
           let free = not_closed time (length a.sheet) v may in
           let moves : Ends v end = step_moves kind time v _ end (way_of kind own time a b s k) in
           let fits = λ (h : HostBook) (u : TerminalBook) (f : Fitting v.task h u).
-              step_fits time v kind _ _ free (way_traced time v (IsAnswered by_host by_terminal) kind own a.job.granted _ _ trace end k.conducts.traces h u f)
-                  in
+          step_fits time v kind _ _ free (way_traced time v (IsAnswered by_host by_terminal) kind own a.job.granted _ _ trace end k.conducts.traces h u f)
+          in
           let starts : StepFits v (after (fitting_host v.task) (fitting_terminal v.task) trace) end =
-              fits (fitting_host v.task) (fitting_terminal v.task) (fitting v.task) in
+          fits (fitting_host v.task) (fitting_terminal v.task) (fitting v.task) in
           record {
             fair = record { issued = moves.issued; taken = moves.orders; spawned = counted; tickets = λ k l _. moves.tickets k l refl; refused = tt };
             books = λ f.
                 let host = by_host.book a.host in
                 let terminal = by_terminal.book a.terminal in
                 let step : StepFits v (after host terminal trace) end = fits host terminal (record { roster = rw free at f.roster; grants = f.grants }) in
-                record { roster = ap (λ x. x.roster) k.host_book ∙ step.roster; grants = ap (λ x. x.grants) k.terminal_book ∙ step.grants; holder = holds b.job
-                    };
+                record {
+                  roster = ap (λ x. x.roster) k.host_book ∙ step.roster;
+                  grants = ap (λ x. x.grants) k.terminal_book ∙ step.grants;
+                  holder = holds b.job;
+                };
             starts = omega (arith, starts.starts, journal-spawns trace, tried-spawns k);
           }
 

@@ -12,13 +12,13 @@ use Rattle.task.specs.declared.messages.ControlMessage.{ControlMessage}
 use Rattle.std.proofs.lemmas.List.Sums.{sum_by-cons}
 use Rattle.task.specs.declared.messages.Control.{Control}
 use Rattle.task.specs.declared.task.Outcome.{Outcome}
-use Rattle.task.specs.declared.task.Outcome.TheVariants.{Settled, Ended, Graced, Joined, Closes}
+use Rattle.task.specs.declared.task.Outcome.TheVariants.{Settled, Ended, Closes}
 use Rattle.task.specs.declared.task.PollOutcome.{PollOutcome}
 use Rattle.task.specs.declared.task.PollOutcome.TheVariants.{Over, Renewed}
 use Rattle.supervisor.specs.declared.mailbox.Received.{Received}
 use Rattle.supervisor.specs.declared.queues.Priority.{Priority}
 use Rattle.supervisor.specs.declared.timer.Timer.{Timer}
-use Rattle.supervisor.specs.Mailbox.{MailboxView, QueuesView, message, enqueue, admit, admit_all, with_timer, raise_ticket, raise_endings, next, take_urgent, take, orders_start, settle, raise_timer, raise_at_end, raise_again, settle_poll, vacate_ticket}
+use Rattle.supervisor.specs.Mailbox.{MailboxView, QueuesView, message, enqueue, admit, admit_all, raise_ticket, raise_endings, next, take_urgent, take, orders_start, settle, raise_timer, raise_at_end, raise_again, settle_poll, vacate_ticket}
 use Rattle.supervisor.specs.Timers.{memory}
 use Rattle.drive.specs.Laws.{orders_in, waiting_orders}
 
@@ -54,7 +54,7 @@ then_moves {l = l} {m = m} {n = n} g h = record {
   orders = omega (arith, g.orders, h.orders);
   tickets = λ s i e.
       goes_further (mark_of s l.tickets.table) (mark_of s m.tickets.table) (mark_of s n.tickets.table) (g.tickets s i refl)
-          (h.tickets s (omega (arith, i, g.issued)) refl);
+      (h.tickets s (omega (arith, i, g.issued)) refl);
 }
 
 settle_moves : (time : ℕ) (o : Outcome) (t : ℕ) (m : MailboxView) → Moves 0 0 0 any m (settle time o t m)

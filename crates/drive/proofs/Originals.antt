@@ -10,7 +10,6 @@ use Rattle.host.specs.Interaction.{Interaction, done, ask, bind, Traces}
 use Rattle.host.specs.Journal.{record_of, journal}
 use Rattle.task.specs.declared.messages.Control.{Control}
 use Rattle.task.specs.declared.messages.Control.TheVariants.{NextEnding}
-use Rattle.task.specs.declared.task.Outcome.{Outcome}
 use Rattle.task.specs.Task as Tree
 use Rattle.task.specs.Task.{TaskView, closes, GrantMeansRunning, MaySetTimer}
 use Rattle.host.specs.State.{is_running}
@@ -28,7 +27,7 @@ use Rattle.drive.specs.Original as Original
 use Rattle.drive.specs.Original.{Amendments}
 use Rattle.drive.specs.Follows.{heard_calls, Follows, Agrees, is_launch, IsApart}
 use Rattle.drive.proofs.Likeness.{Like, Spoken, like_follows}
-use Rattle.drive.proofs.Arms.{with_task, Settles, Seen, Paused, AtOnce, control_like, poll_like, pause_like}
+use Rattle.drive.proofs.Arms.{Settles, Seen, Paused, AtOnce, control_like, poll_like, pause_like}
 use Rattle.drive.proofs.Mailboxes.{take_moves}
 use Rattle.drive.proofs.Flagged.{MatchesTickets, state_of, original_of, same_original, tickets_match, agree, settle_agrees, poll_agrees, as_received, recv-received}
 
@@ -79,14 +78,14 @@ module _ {W : Type 0} (did : W → (c : Call) → Reply c → W → Type 0) (am 
       let pending = at_once c v.task.state (λ i j. apart.pending refl r n e i j) in
       let like = control_like am v.task.foreground.pauses (Speaks Drops) (λ _ _ _ _ _ h. h refl) now t f c v.task pending refl in
       rw free (end_comes (Speaks Drops) (Settles now t f) (Tree.control c now v.task) (Original.arm am c now t f) (control_end now r n) like
-          (spoken Drops p apart.waiting)
-          (λ x trace o z.
-              let fits = control_fits c now v.task in
-              let ends = traced did v.task granted (Carried c (is_running v.task.state)) (Tree.control c now v.task) w w' p x fits trace _ _ (fitting v.task) in
-              let hand = take_in now v.mailbox r n order e in
-              let match : MatchesTickets false n.tickets raised = rw ((take_moves now v.mailbox r n e).0, ← free) h in
-              rw z (settle_agrees now v.task r n x hand.order (λ i. hand.free (ends.timed i)) match))
-          run)
+      (spoken Drops p apart.waiting)
+      (λ x trace o z.
+      let fits = control_fits c now v.task in
+      let ends = traced did v.task granted (Carried c (is_running v.task.state)) (Tree.control c now v.task) w w' p x fits trace _ _ (fitting v.task) in
+      let hand = take_in now v.mailbox r n order e in
+      let match : MatchesTickets false n.tickets raised = rw ((take_moves now v.mailbox r n e).0, ← free) h in
+      rw z (settle_agrees now v.task r n x hand.order (λ i. hand.free (ends.timed i)) match))
+      run)
     where
       at_once : (c : Control) (state : CommandState) → (c ≡ NextEnding → state ≡ Pending → am.at_once ≡ true) → AtOnce am c state
       at_once NextEnding Pending k = k refl refl

@@ -13,7 +13,6 @@ use Rattle.tickets.proofs.Tables.{found-put, put-weight, one_standing, one_at-sa
 use Rattle.task.specs.declared.messages.Control.{Control}
 use Rattle.supervisor.specs.declared.errors.Refusal.{Refusal}
 use Rattle.supervisor.specs.declared.queues.Priority.{Priority}
-use Rattle.supervisor.specs.declared.queues.Priority.TheVariants.{Normal, High, Urgent}
 use Rattle.supervisor.specs.declared.sends.Send.{Send}
 use Rattle.supervisor.specs.Job as Job
 use Rattle.supervisor.specs.Job.{JobView, with_mailbox}
@@ -53,8 +52,12 @@ give_matches held k {closed} {raised} room none h =
 
 admitted_later : (p : Priority) (c : Control) (held : Bool) (m : MailboxView) → 1 ≤ free_places m.tickets.table → HasNoneLater m
     → HasNoneLater (admit p c held m)
-admitted_later p c held m room none s l = grind (arith, nat_tests, put-weight is_taken (m.tickets.issued + 1) (new_mark held) m.tickets.table room (one_at s),
-    none s (omega arith))
+admitted_later p c held m room none s l = grind (
+  arith,
+  nat_tests,
+  put-weight is_taken (m.tickets.issued + 1) (new_mark held) m.tickets.table room (one_at s),
+  none s (omega arith),
+)
 
 admit_all_matches : (p : Priority) (cs : List Control) (m : MailboxView) {closed : Bool} {raised : List ℕ}
     → ticket_room (length cs) m.tickets.issued m.tickets.table ≡ true → HasNoneLater m → MatchesTickets closed m.tickets raised
@@ -68,7 +71,7 @@ admit_all_matches p (c ∷ d ∷ cs) m room none h =
     let place = one_place n m.tickets.issued m.tickets.table more in
     let one = give_matches false m.tickets place (none (m.tickets.issued + 1) (omega arith)) h in
     admit_all_matches p (d ∷ cs) (admit p c false m) (room_rest n m.tickets.issued (new_mark false) m.tickets.table more)
-        (admitted_later p c false m place none) one
+    (admitted_later p c false m place none) one
 
 -- the original prepares a message as the mailbox admits it
 prepare_same : (p : Priority) (c : Control) (held : Bool) (v : JobView) (raised : List ℕ) → Original.prepare p c (original_of v raised) ≡ original_of
@@ -137,7 +140,7 @@ collect_agrees ticket {v} {o} once a = by (known_ticket ticket)
     gone t h =
         let k = tickets_match a in
         rw (same_original a)
-            (agree (record { later = k.later; same = λ e s l j. vacated_settled s t v.mailbox.tickets.table (once e s) (h e) ∙ k.same e s l j }))
+        (agree (record { later = k.later; same = λ e s l j. vacated_settled s t v.mailbox.tickets.table (once e s) (h e) ∙ k.same e s l j }))
 
     given : (t : ℕ) (x : Result Bool Refusal) → Job.is_done v.closed (mark_of t v.mailbox.tickets.table) ≡ x → Agrees (Job.collect_if x t v).0 o
     given t (Ok true) e = gone t (λ f. raised_if (mark_of t v.mailbox.tickets.table) (rw f at e))

@@ -11,8 +11,7 @@ use Rattle.host.proofs.Spawns.{journal-spawns}
 use Rattle.task.proofs.Sheets.{journal-length}
 use Rattle.supervisor.specs.declared.answers.Stepped.{Stepped}
 use Rattle.supervisor.specs.declared.errors.Refusal.{Refusal}
-use Rattle.supervisor.specs.declared.answers.StepKind.{StepKind}
-use Rattle.supervisor.specs.Job.{JobView, StepEnd, may_step, tree_of}
+use Rattle.supervisor.specs.Job.{JobView, StepEnd, may_step}
 use Rattle.supervisor.specs.Steps.{Moment, job_view, Steps, StepsOrRefuses}
 use Rattle.drive.specs.declared.calls.Call.{Call}
 use Rattle.drive.specs.declared.calls.Call.TheVariants.{Step}
@@ -54,7 +53,7 @@ module _ {H T : Type 0} {by_host : Host.Ghosts H} {by_terminal : Terminal.Ghosts
       (tree time (job_view a.job)) a s b × (d ≡ step_done (Ok s) b.sheet)
   accepted {tree} {time} {a} made k =
       step_cases (λ d b. is_ok d.answer ≡ true → (s : Stepped) × (may_step time (length a.sheet) (job_view a.job) ≡ Ok tt) × Steps by_host by_terminal
-          (tree time (job_view a.job)) a s b × (d ≡ step_done (Ok s) b.sheet)) (λ r may k. cc k) (λ s may step k. (s, may, step, refl)) made k
+      (tree time (job_view a.job)) a s b × (d ≡ step_done (Ok s) b.sheet)) (λ r may k. cc k) (λ s may step k. (s, may, step, refl)) made k
 
 module _ {H T : Type 0} (by_host : Host.Ghosts H) (by_terminal : Terminal.Ghosts T) (a : Moment H T) where
   -- a call tries at most one start, and takes at most one order

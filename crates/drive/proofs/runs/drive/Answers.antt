@@ -17,7 +17,7 @@ next : (g : given.Over) (c : After-make-done g) → SoFar g.H.Host g.T.Terminal 
 next g c =
     let after = c.make-done.new in
     one_more g.H.Host g.T.Terminal (Send (Control Start)) (record { did = c.make-done.result; at = moment after.job after.host after.terminal after.sheet })
-        (omega arith) (omega arith) c.loop-i.invariant c.make-done.ensures
+    (omega arith) (omega arith) c.loop-i.invariant c.make-done.ensures
 
 pub overflow_add-tally : goal.overflow_add-tally
 overflow_add-tally g c = omega (arith, (next g (goal.at.overflow_add-tally g c).After-make-done).tried_few)
