@@ -32,18 +32,11 @@ Flags = Original.Original
 
 -- the original with the task t
 abbrev pub with_task : TaskView → Flags → Original.Original
-with_task t f = record f {
-  command = t.command;
-  pause_rx = t.foreground.pauses;
-  error_handler = t.settings.handler;
-  spawn_hook = t.settings.hook;
-  spawner = t.settings.way;
-  command_state = t.state;
-  previous_run = t.previous;
-  foreground_grant = t.foreground.grant;
-  pause_watch = t.foreground.watch;
-  paused = t.foreground.paused;
-}
+with_task t f =
+    let run = record f { command = t.command; command_state = t.state; previous_run = t.previous } in
+    let settings = record run { error_handler = t.settings.handler; spawn_hook = t.settings.hook; spawner = t.settings.way } in
+    let foreground = record settings { pause_watch = t.foreground.watch; paused = t.foreground.paused; pause_rx = t.foreground.pauses } in
+    record foreground { foreground_grant = t.foreground.grant }
 
 -- the flags once the control of this flag has had that outcome
 abbrev pub settled : ℕ → ℕ → Outcome → Flags → Flags

@@ -59,26 +59,14 @@ each_matches : (ts : List ℕ) (k : TicketsView) {closed : Bool} {raised : List 
 each_matches [] k once made h = h
 each_matches (t ∷ ts) k {closed} {raised} once made h =
     let one = record k { table = raise t k.table } in
-    let first : MatchesTickets closed one (t ∷ raised) =
-    record {
+    let first : MatchesTickets closed one (t ∷ raised) = record {
       later = λ s l. grind (arith, common_steps, made s l, h.later s l);
-      same = λ e s i j. grind (
-        arith,
-        common_steps,
-        raise-settled s t k.table
-            (once s),
-        h.same e s i j,
-      );
+      same = λ e s i j. grind (arith, common_steps, raise-settled s t k.table (once s), h.same e s i j);
     } in
     let rest = each_matches ts one (once_each (t ∷ []) k.table once) (λ s l. grind (arith, common_steps, made s l)) first in
     record {
       later = λ s l. grind (arith, common_steps, list_any-append, rest.later s l);
-      same = λ e s i j. grind (
-        arith,
-        common_steps,
-        list_any-append,
-        rest.same e s i j,
-      );
+      same = λ e s i j. grind (arith, common_steps, list_any-append, rest.same e s i j);
     }
 
 -- a ticket that weighs nothing in a list is not in it
@@ -103,27 +91,10 @@ timer_made m t e h s l = none_weighs s (t.ticket ∷ []) (grind (arith, none_lat
 
 -- the original with a task, a mailbox, the raised flags, and whether the job is closed
 abbrev pub state_of : TaskView → MailboxView → List ℕ → Bool → Original.Original
-state_of t m raised gone = record {
-  command = t.command;
-  pause_rx = t.foreground.pauses;
-  error_handler = t.settings.handler;
-  spawn_hook = t.settings.hook;
-  spawner = t.settings.way;
-  command_state = t.state;
-  previous_run = t.previous;
-  foreground_grant = t.foreground.grant;
-  pause_watch = t.foreground.watch;
-  paused = t.foreground.paused;
-  normal = map message_of m.queues.normal;
-  high = map message_of m.queues.high;
-  urgent = map message_of m.queues.urgent;
-  stop_timer = option_map timer_of m.timer;
-  on_end_restart = memory m.timer;
-  on_end = m.ending;
-  flags = m.tickets.issued;
-  raised = raised;
-  gone = gone;
-}
+state_of t m raised gone =
+    let queues = record (Original.fresh_original t.command) { normal = map message_of m.queues.normal; high = map message_of m.queues.high } in
+    let timer = record queues { urgent = map message_of m.queues.urgent; stop_timer = option_map timer_of m.timer; on_end_restart = memory m.timer } in
+    with_task t (record timer { on_end = m.ending; flags = m.tickets.issued; raised = raised; gone = gone })
 
 abbrev pub original_of : JobView → List ℕ → Original.Original
 original_of v raised = state_of v.task v.mailbox raised v.closed
@@ -137,28 +108,7 @@ pub tickets_match : {v : JobView} {o : Original.Original} → Agrees v o → Mat
 tickets_match a = record { later = a.later; same = a.raised }
 
 pub agree : {v : JobView} {raised : List ℕ} → MatchesTickets v.closed v.mailbox.tickets raised → Agrees v (original_of v raised)
-agree h = record {
-  command = refl;
-  state = refl;
-  previous = refl;
-  handler = refl;
-  hook = refl;
-  way = refl;
-  paused = refl;
-  pauses = refl;
-  watch = refl;
-  grant = refl;
-  normal = refl;
-  high = refl;
-  urgent = refl;
-  timer = refl;
-  memory = refl;
-  ending = refl;
-  issued = refl;
-  closed = refl;
-  later = h.later;
-  raised = h.same;
-}
+agree h = search (h.later, h.same)
 
 -- OUTCOMES
 

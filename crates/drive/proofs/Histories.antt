@@ -56,35 +56,20 @@ module _ {H T : Type 0} (by_host : Host.Ghosts H) (by_terminal : Terminal.Ghosts
     pub ordered_few : ordered ≤ i
 
   pub at_first : (calls : List Call) (a : Moment H T) (xs : List (Result Value Refusal)) → SoFar calls 0 a xs 0 0 a xs
-  at_first calls a xs = record {
-    turns = [];
-    linked = (refl, refl);
-    answers = refl;
-    tried_is = refl;
-    ordered_is = refl;
-    tried_few = omega arith;
-    ordered_few = omega arith;
-  }
+  at_first calls a xs = grind (arith, common_steps)
 
   pub one_more : {calls : List Call} {i : ℕ} {a : Moment H T} {xs : List (Result Value Refusal)} {m n : ℕ} {b : Moment H T} {ys : List (Result Value Refusal)}
-      (z : Call) (t : Turn (Moment H T)) → i < length calls → i < length xs → SoFar calls i a xs m n b ys → Makes by_host by_terminal (get_or calls i z) b t.did
-      t.at → SoFar calls (i + 1) a xs (m + t.did.tally.tried) (n + t.did.tally.ordered) t.at (set ys i t.did.answer)
+      (z : Call) (t : Turn (Moment H T)) → i < length calls → i < length xs → SoFar calls i a xs m n b ys
+      → Makes by_host by_terminal (get_or calls i z) b t.did t.at → SoFar calls (i + 1) a xs (m + t.did.tally.tried) (n + t.did.tally.ordered) t.at (set ys i t.did.answer)
   one_more {calls} {i} {a} {xs} {m} {n} {b} {ys} z t l k h r =
       let few : (t.did.tally.tried ≤ 1) × (t.did.tally.ordered ≤ 1) = makes_few by_host by_terminal b (get_or calls i z) t.did t.at r in
-      let count : length (answers_of h.turns) ≡ i = omega (
-        arith,
-        linked-length (Makes by_host by_terminal) (take i calls) a h.turns b h.linked,
-        length-take i calls,
-      ) in
+      let turns = linked-length (Makes by_host by_terminal) (take i calls) a h.turns b h.linked in
+      let count : length (answers_of h.turns) ≡ i = omega (arith, turns, length-take i calls) in
+      let answers = map-append (λ (u : Turn (Moment H T)). u.did.answer) h.turns (t ∷ []) in
       record {
         turns = h.turns ++ t ∷ [];
         linked = rw (take_more calls i z l) (linked_more (Makes by_host by_terminal) (take i calls) a h.turns b (get_or calls i z) t h.linked r);
-        answers = cc (
-          h.answers,
-          written_more (answers_of h.turns) xs i t.did.answer count k,
-          map-append (λ (u : Turn (Moment H T)). u.did.answer) h.turns
-              (t ∷ []),
-        );
+        answers = cc (h.answers, written_more (answers_of h.turns) xs i t.did.answer count k, answers);
         tried_is = grind (arith, common_steps);
         ordered_is = grind (arith, common_steps);
         tried_few = omega arith;
