@@ -167,59 +167,10 @@ poll_agrees now v x {raised} order h = by v.mailbox.timer x.1 order
 abbrev pub Forgets : Amendments → ℕ → MailboxView → Type 0
 Forgets am now m = (t : Timer) → m.timer ≡ Some t → t.deadline ≤ now → t.end ≡ Restart → am.forgets ≡ true
 
-module _ (t : TaskView) (m : MailboxView) (raised : List ℕ) (gone : Bool) where
-  -- what is taken from the mailbox, as the original receives it
-  abbrev pub as_received : TakeResult → Original.RecvResult
-  as_received k = option_map (λ x. (message_of x.0.message, state_of t x.1 raised gone)) k
+-- what is taken from a mailbox, as the original receives it
+abbrev pub as_received : TaskView → List ℕ → Bool → TakeResult → Original.RecvResult
+as_received t raised gone k = option_map (λ x. (message_of x.0.message, state_of t x.1 raised gone)) k
 
-  abbrev original : Original.Original
-  original = state_of t m raised gone
-
-  abbrev next_received : NextResult → Original.RecvResult
-  next_received k = as_received (option_map (λ x. (message_from x.0 Sources.Queue, with_queues x.1 m)) k)
-
-  normal_received : (waits : Bool) (cs : List ControlMessage) → Original.recv_normal waits (map message_of cs) original ≡ next_received
-      (take_normal waits cs m.queues)
-  normal_received true cs = refl
-  normal_received false [] = refl
-  normal_received false (c ∷ cs) = refl
-
-  high_received : (waits : Bool) (cs : List ControlMessage) → Original.recv_high waits (map message_of cs) original ≡ next_received
-      (take_high waits cs m.queues)
-  high_received waits [] = normal_received waits m.queues.normal
-  high_received waits (c ∷ cs) = refl
-
-  urgent_received : (waits : Bool) (cs : List ControlMessage) → Original.recv_urgent waits (map message_of cs) original ≡ next_received
-      (take_urgent waits cs m.queues)
-  urgent_received waits [] = high_received waits m.queues.high
-  urgent_received waits (c ∷ cs) = refl
-
-  queues_received : Original.recv_urgent (is_some original.stop_timer) original.urgent original ≡ as_received (take_from_queues m)
-  queues_received = rw (waits m.timer) (urgent_received (is_some m.timer) m.queues.urgent)
-    where
-      waits : (k : Option Timer) → is_some (option_map timer_of k) ≡ is_some k
-      waits None = refl
-      waits (Some k) = refl
-
-  pub recv-received : (am : Amendments) (now : ℕ) → Forgets am now m → Original.recv am now original ≡ as_received (take now m)
-  recv-received am now forgets = by m.timer refl
-    where
-      -- the restart that the timer continues is forgotten, if there is one
-      message : (k : Timer) (end : GraceEnd) → (end ≡ Restart → am.forgets ≡ true) → Original.recv_timer am (Some (timer_of (record k { end = end })))
-          (record original { on_end_restart = memory_of end k.ticket }) ≡ as_received (take_due (Some (timer_message (record k { end = end }))) m)
-      message k Stop z = rw (none am.forgets) refl
-        where
-          none : (b : Bool) → let nothing : Option ℕ = None in (if b then nothing else None) ≡ None
-          none true = refl
-          none false = refl
-      message k Restart z = rw (z refl) refl
-
-      past : (k : Timer) (is : Bool) → m.timer ≡ Some k → nat_le k.deadline now ≡ is → Original.recv_timer am (if is then Some (timer_of k) else None) original
-          ≡ as_received (take_due (if is then Some (timer_message k) else None) m)
-      past k true e l = rw e (message k k.end (λ s. forgets k e (grind (arith, nat_tests, l)) s))
-      past k false e l = queues_received
-
-      by : (k : Option Timer) → m.timer ≡ k → Original.recv_timer am (Original.is_past now (option_map timer_of k)) original ≡ as_received
-          (take_due (due_message now k) m)
-      by None e = queues_received
-      by (Some k) e = past k (nat_le k.deadline now) e refl
+pub recv-received : (t : TaskView) (m : MailboxView) (raised : List ℕ) (gone : Bool) (am : Amendments) (now : ℕ) → Forgets am now m
+    → Original.recv am now (state_of t m raised gone) ≡ as_received t raised gone (take now m)
+recv-received t m raised gone am now forgets = grind (arith, common_steps, nat_tests, forgets)

@@ -126,11 +126,7 @@ collect_keeps ticket v = (by (known_ticket ticket) refl, grind (arith, common_st
 
 -- a job that holds a grant runs a child
 pub holds : (j : Job) → (job_view j).task.foreground.grant ≡ true → runs (job_view j) ≡ true
-holds j g = by j.closed refl
-  where
-    by : (closed : Bool) → j.closed ≡ closed → runs (job_view j) ≡ true
-    by false e = grind (arith, e, j.granted g)
-    by true e = absurd (grind (arith, j.yielded e, g))
+holds j g = grind (arith, common_steps, j.granted, j.yielded)
 
 module _ {H T : Type 0} (by_host : Host.Ghosts H) (by_terminal : Terminal.Ghosts T) where
   -- the call c goes from the moment a to the moment b, and does d
@@ -141,17 +137,7 @@ module _ {H T : Type 0} (by_host : Host.Ghosts H) (by_terminal : Terminal.Ghosts
 
   -- nothing was done
   still_goes : (c : Call) (a : Moment H T) (r : Result Value Refusal) → accepted_controls c (job_view a.job).closed r ≡ [] → Goes c a (done_without r) a
-  still_goes c a r e =
-      let tickets = λ (s : ℕ). goes_again (mark_of s (job_view a.job).mailbox.tickets.table) in
-      record {
-        fair = record { issued = rw e (omega arith); taken = rw e (omega arith); spawned = grind arith; tickets = λ s l _. tickets s; refused = same r };
-        books = λ f. f;
-        starts = omega arith;
-      }
-    where
-      same : (r : Result Value Refusal) → OnErr r (a ≡ a)
-      same (Ok x) = tt
-      same (Err x) = refl
+  still_goes c a r e = grind (arith, common_steps, goes_again)
 
   unchanged : (a b : Moment H T) (r : Result Value Refusal) → OnErr r (b.job ≡ a.job) → b.host ≡ a.host → b.terminal ≡ a.terminal → b.sheet ≡ a.sheet
       → OnErr r (b ≡ a)

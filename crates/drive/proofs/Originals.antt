@@ -98,7 +98,7 @@ module _ {W : Type 0} (did : W → (c : Call) → Reply c → W → Type 0) (am 
       (by (Mail.take now v.mailbox) refl run)
     where
       by : (k : TakeResult) → Mail.take now v.mailbox ≡ k → Traces did (carry_out k now v) w p s w'
-          → Comes (Original.control_branch am now (as_received v.task v.mailbox raised v.closed k) (original_of v raised))
+          → Comes (Original.control_branch am now (as_received v.task raised v.closed k) (original_of v raised))
       by None e run = rw (run.0, run.1) (original_of v raised, (refl, refl, refl), agree h)
       by (Some (r, n)) e run = control_comes r n e raised h apart run
   turn_comes Kinds.Child own raised h apart run =

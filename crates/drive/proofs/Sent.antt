@@ -121,16 +121,9 @@ pause_agrees signal {v} {o} a k = rw (same_original a) (by (Job.may_pause signal
 -- a raised ticket that leaves its place is settled all the same
 vacated_settled : (s t : ℕ) (es : Table) → weight is_taken (one_at s) es ≤ 1 → mark_of t es ≡ Some Raised → done_count (mark_of s (vacate t es)) ≡ done_count
     (mark_of s es)
-vacated_settled s t es once h = by (s == t) refl
-  where
-    by : (same : Bool) → (s == t) ≡ same → done_count (mark_of s (vacate t es)) ≡ done_count (mark_of s es)
-    by false e = ap done_count (found-vacate s t es e)
-    by true e =
-        let same : s ≡ t = grind (arith, nat_tests, e) in
-        let before : done_count (mark_of s es) ≡ 1 = rw same (ap done_count h) in
-        let standing = one_standing s es once in
-        let after = one_standing s (vacate t es) (omega (arith, once, vacate-taken t es (one_at s))) in
-        omega (arith, before, standing, after, vacate_waiting t es h (one_at s))
+vacated_settled s t es once h =
+    let standing = one_standing s (vacate t es) in
+    grind (arith, nat_tests, found-vacate s t es, one_standing s es, standing, vacate-taken t es (one_at s), vacate_waiting t es h (one_at s), h)
 
 pub collect_agrees : (ticket : ℕ) {v : JobView} {o : Original.Original} → (v.closed ≡ false → (s : ℕ) → weight is_taken (one_at s) v.mailbox.tickets.table ≤ 1)
     → Agrees v o → Agrees (collect_value (known_ticket ticket) v).0 o
