@@ -26,7 +26,7 @@ use Rattle.drive.specs.Original as Original
 use Rattle.drive.specs.Original.{Amendments, Message, StopTimer}
 use Rattle.drive.proofs.Likeness.{Like, like_then, like_made, like_if}
 
--- the original, of which what a job's task has is beside the point
+-- an original, for what it has beside the task
 abbrev pub Flags : Type 0
 Flags = Original.Original
 

@@ -58,14 +58,10 @@ waited_look : (now : ℕ) (v : JobView) → 1 ≤ free_places v.mailbox.tickets.
     v.mailbox.tickets.table ≡ 0 → (r : Received) (n : MailboxView) → n.tickets ≡ give (v.mailbox.tickets.issued + 1) true v.mailbox.tickets
     → r.message.ticket ≡ v.mailbox.tickets.issued + 1 → look (v.mailbox.tickets.issued + 1) (control_end now r n (v.task, Tree.joins v.task.state)).view
     ≡ Ok (not (is_running v.task.state))
-waited_look now v room later r n e t = by (is_running v.task.state)
-  where
-    held : mark_of (v.mailbox.tickets.issued + 1) n.tickets.table ≡ Some Held
-    held = ap (λ k. mark_of (v.mailbox.tickets.issued + 1) k.table) e ∙ found-new (v.mailbox.tickets.issued + 1) Held v.mailbox.tickets.table room later
-
-    by : (running : Bool) → look (v.mailbox.tickets.issued + 1) (control_end now r n (v.task, if running then Joined else Settled)).view ≡ Ok (not running)
-    by true = grind (arith, nat_tests, held)
-    by false = grind (arith, nat_tests, t, raise-held (v.mailbox.tickets.issued + 1) n.tickets.table held)
+waited_look now v room later r n e t =
+    let s = v.mailbox.tickets.issued + 1 in
+    let held : mark_of s n.tickets.table ≡ Some Held = ap (λ k. mark_of s k.table) e ∙ found-new s Held v.mailbox.tickets.table room later in
+    grind (arith, nat_tests, common_steps, held, t, raise-held s n.tickets.table held)
 
 -- a `to_wait`, and the step that takes its control
 waited : {W : Type 0} (did : W → (c : Call) → Reply c → W → Type 0) (now ticket : ℕ) (v m : JobView) (answer : Result Value Refusal) → v.closed ≡ false
@@ -87,10 +83,9 @@ waited did now ticket v m answer free later none urgent high sent ok w w' p s ru
         (Mail.message NextEnding (v.mailbox.tickets.issued + 1)) none urgent (ap (λ cs. cs ++ Mail.message NextEnding (v.mailbox.tickets.issued + 1) ∷ [])
         high) in
         let sent : Traces did (control_step now w₁) w p s w' = subst (λ (u : JobView). Traces did (control_step now u) w p s w') z run in
-        let done : Traces did (carry_out (Some (r, n)) now w₁) w p s w' = subst (λ (k : Mail.TakeResult). Traces did (carry_out k now w₁) w p s w') taken sent
-        in
+        let ended = subst (λ (k : Mail.TakeResult). Traces did (carry_out k now w₁) w p s w') taken sent in
         subst (λ (t : ℕ). look t s.view ≡ Ok (not (is_running v.task.state))) (sym e)
-        (subst (λ (u : StepEnd). look (v.mailbox.tickets.issued + 1) u.view ≡ Ok (not (is_running v.task.state))) (sym done.1)
+        (subst (λ (u : StepEnd). look (v.mailbox.tickets.issued + 1) u.view ≡ Ok (not (is_running v.task.state))) (sym ended.1)
         (waited_look now v room (later (v.mailbox.tickets.issued + 1) (omega arith)) r n refl refl))
 
     sends : (r : Result ⊤ Refusal) → may_send High (NextEnding ∷ []) v.mailbox ≡ r
@@ -102,6 +97,9 @@ waited did now ticket v m answer free later none urgent high sent ok w w' p s ru
         v) → look ticket s.view ≡ Ok (not (is_running v.task.state))
     whether true e q = cc e
     whether false e q = sends (may_send High (NextEnding ∷ []) v.mailbox) refl q
+
+both_count : (r f : Bool) → r ≡ true → 1 ≤ from_bool f → from_bool (r && f) ≡ 1
+both_count r f e k = grind (arith, common_steps)
 
 module _ {H T : Type 0} {by_host : Host.Ghosts H} {by_terminal : Terminal.Ghosts T} {tree : ℕ → JobView → Interaction StepEnd} {now : ℕ} {a b : Moment H T}
     {d : Done} where
@@ -128,16 +126,11 @@ module _ {H T : Type 0} (by_host : Host.Ghosts H) (by_terminal : Terminal.Ghosts
       (λ s may step l.
       let way = way_of Kinds.Child 0 now a b s step in
       let wrote = records_are step.conducts in
-      ap spawns_among wrote ∙ way.1.starts ∙ one _ (found_end way.0.1) restart (omega (arith, way.1.ends, rw wrote at l)))
+      ap spawns_among wrote ∙ way.1.starts ∙ both_count _ (found_end way.0.1) restart (omega (arith, way.1.ends, rw wrote at l)))
       made l
     where
       restart : is_some (memory (job_at a).mailbox.timer) ≡ true
       restart = ap (λ k. is_some (memory k)) p.0 ∙ ap (λ end. is_some (memory_of end t.ticket)) p.1
-
-      one : (r f : Bool) → r ≡ true → 1 ≤ from_bool f → from_bool (r && f) ≡ 1
-      one true true e k = refl
-      one true false e k = absurd (omega (arith, k))
-      one false f e k = cc e
 
   -- a child step takes no order
   child_orders : (now : ℕ) (a : Moment H T) (d : Done) (b : Moment H T) → Makes by_host by_terminal (Calls.Step Kinds.Child now) a d b → d.tally.ordered ≡ 0

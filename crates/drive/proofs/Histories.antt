@@ -60,7 +60,8 @@ module _ {H T : Type 0} (by_host : Host.Ghosts H) (by_terminal : Terminal.Ghosts
 
   pub one_more : {calls : List Call} {i : ℕ} {a : Moment H T} {xs : List (Result Value Refusal)} {m n : ℕ} {b : Moment H T} {ys : List (Result Value Refusal)}
       (z : Call) (t : Turn (Moment H T)) → i < length calls → i < length xs → SoFar calls i a xs m n b ys
-      → Makes by_host by_terminal (get_or calls i z) b t.did t.at → SoFar calls (i + 1) a xs (m + t.did.tally.tried) (n + t.did.tally.ordered) t.at (set ys i t.did.answer)
+      → Makes by_host by_terminal (get_or calls i z) b t.did t.at
+      → SoFar calls (i + 1) a xs (m + t.did.tally.tried) (n + t.did.tally.ordered) t.at (set ys i t.did.answer)
   one_more {calls} {i} {a} {xs} {m} {n} {b} {ys} z t l k h r =
       let few : (t.did.tally.tried ≤ 1) × (t.did.tally.ordered ≤ 1) = makes_few by_host by_terminal b (get_or calls i z) t.did t.at r in
       let turns = linked-length (Makes by_host by_terminal) (take i calls) a h.turns b h.linked in

@@ -149,8 +149,8 @@ module _ {H T : Type 0} (by_host : Host.Ghosts H) (by_terminal : Terminal.Ghosts
   quiet_goes : (c : Call) (f : JobView → JobView × Result Value Refusal) → ((v : JobView) → Keeps c v (f v)) → (a : Moment H T) (d : Done) (b : Moment H T)
       → AnswersAlone by_host by_terminal f a d b → Makes by_host by_terminal c a d b → Goes c a d b
   quiet_goes c f k a d b q made =
-      let keeps : Keeps c (job_view a.job) (job_view b.job, d.answer) = subst (λ (x : JobView × Result Value Refusal). Keeps c (job_view a.job) x)
-      (sym q.answers.answer) (k (job_view a.job)) in
+      let v = job_view a.job in
+      let keeps = subst (λ (x : JobView × Result Value Refusal). Keeps c v x) (sym q.answers.answer) (k v) in
       let moves = keeps.0 in
       let same = keeps.1 in
       record {
@@ -188,9 +188,8 @@ module _ {H T : Type 0} (by_host : Host.Ghosts H) (by_terminal : Terminal.Ghosts
           let end = step_end b.job s in
           let free = not_closed time (length a.sheet) v may in
           let moves : Ends v end = step_moves kind time v _ end (way_of kind own time a b s k) in
-          let fits = λ (h : HostBook) (u : TerminalBook) (f : Fitting v.task h u).
-          step_fits time v kind _ _ free (way_traced time v (IsAnswered by_host by_terminal) kind own a.job.granted _ _ trace end k.conducts.traces h u f)
-          in
+          let way = way_traced time v (IsAnswered by_host by_terminal) kind own a.job.granted _ _ trace end k.conducts.traces in
+          let fits = λ (h : HostBook) (u : TerminalBook) (f : Fitting v.task h u). step_fits time v kind _ _ free (way h u f) in
           let starts : StepFits v (after (fitting_host v.task) (fitting_terminal v.task) trace) end =
           fits (fitting_host v.task) (fitting_terminal v.task) (fitting v.task) in
           record {
@@ -215,8 +214,8 @@ module _ {H T : Type 0} (by_host : Host.Ghosts H) (by_terminal : Terminal.Ghosts
   goes (Calls.Collect ticket) a d b r = quiet_goes (Calls.Collect ticket) (collect_value (known_ticket ticket)) (collect_keeps ticket) a d b r r
 
   -- what an accepted control step makes of a timer
-  pub control_taken : (time : ℕ) (a : Moment H T) (d : Done) (b : Moment H T) → is_ok d.answer ≡ true → Makes by_host by_terminal (Calls.Step Control time) a d
-      b → TakesWhenDue time (job_view a.job) (job_view b.job)
+  pub control_taken : (time : ℕ) (a : Moment H T) (d : Done) (b : Moment H T) → is_ok d.answer ≡ true
+      → Makes by_host by_terminal (Calls.Step Control time) a d b → TakesWhenDue time (job_view a.job) (job_view b.job)
   control_taken time a d b k made =
       let step = accepted made k in
       (control_accepted time a b step.0 (a.job.in_order (not_closed time (length a.sheet) (job_view a.job) step.1)) step.2).0
