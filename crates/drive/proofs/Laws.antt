@@ -172,18 +172,10 @@ module _ {H T : Type 0} (by_host : Host.Ghosts H) (by_terminal : Terminal.Ghosts
   step_goes : (kind : StepKind) (time : ℕ) (a : Moment H T) (d : Done) (b : Moment H T) → Makes by_host by_terminal (Calls.Step kind time) a d b
       → Goes (Calls.Step kind time) a d b
   step_goes kind time a d b made =
-      step_cases (λ d b. CountsSpawns by_host a d b → Goes (Calls.Step kind time) a d b) (λ r may f. still_goes (Calls.Step kind time) a (Err r) refl) by made
-      (makes-spawns by_host by_terminal a (Calls.Step kind time) d b made)
-    where
-      v : JobView
-      v = job_view a.job
-
-      own : ℕ
-      own = (by_terminal.book a.terminal).own
-
-      by : (s : Stepped) → may_step time (length a.sheet) v ≡ Ok tt → Steps by_host by_terminal (tree_of kind own time v) a s b
-          → CountsSpawns by_host a (step_done (Ok s) b.sheet) b → Goes (Calls.Step kind time) a (step_done (Ok s) b.sheet) b
-      by s may k counted =
+      let v = job_view a.job in
+      let own = (by_terminal.book a.terminal).own in
+      step_cases (λ d b. CountsSpawns by_host a d b → Goes (Calls.Step kind time) a d b) (λ r may f. still_goes (Calls.Step kind time) a (Err r) refl)
+      (λ s may k counted.
           let trace = k.conducts.trace in
           let end = step_end b.job s in
           let free = not_closed time (length a.sheet) v may in
@@ -204,7 +196,8 @@ module _ {H T : Type 0} (by_host : Host.Ghosts H) (by_terminal : Terminal.Ghosts
                   holder = holds b.job;
                 };
             starts = omega (arith, starts.starts, journal-spawns trace, tried-spawns k);
-          }
+          })
+      made (makes-spawns by_host by_terminal a (Calls.Step kind time) d b made)
 
   pub goes : (c : Call) (a : Moment H T) (d : Done) (b : Moment H T) → Makes by_host by_terminal c a d b → Goes c a d b
   goes (Calls.Send s) a d b r = quiet_goes (Calls.Send s) (send_value s) (send_keeps s) a d b r r
