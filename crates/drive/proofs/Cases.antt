@@ -17,7 +17,6 @@ use Rattle.tickets.specs.Weights.{weight, one_at}
 use Rattle.tickets.proofs.Tables.{found-new, raise-held}
 use Rattle.task.specs.declared.messages.Control.TheVariants.{NextEnding}
 use Rattle.task.specs.declared.messages.ControlMessage.{ControlMessage}
-use Rattle.task.specs.declared.task.Outcome.TheVariants.{Settled, Joined}
 use Rattle.task.specs.Task as Tree
 use Rattle.task.proofs.Courses.{found_end}
 use Rattle.task.proofs.Sheets.{records_are}

@@ -1,6 +1,6 @@
 -- The mailbox of a job and the flags of the original, from one step to the next.
-use Rattle.std.proofs.Common.{◌≡◌, ℕ, ◌+◌, ◌<◌, ◌≤◌, Bool, true, false, if◌then◌else◌, Some, None, is_some, Option, List, [], ◌∷◌, ◌++◌, refl, arith}
-use Rattle.std.specs.Prelude.{◌==◌, nat_le, map}
+use Rattle.std.proofs.Common.{◌≡◌, ℕ, ◌+◌, ◌<◌, ◌≤◌, Bool, true, false, if◌then◌else◌, Some, None, Option, List, [], ◌∷◌, ◌++◌, refl, arith}
+use Rattle.std.specs.Prelude.{◌==◌, map}
 use Rattle.std.specs.Int.{from_bool}
 use Rattle.std.specs.Option.{option_map}
 use Rattle.std.proofs.lemmas.Bool.Decides.{nat_tests}
@@ -10,7 +10,6 @@ use Rattle.tickets.specs.Tickets.{Table, TicketsView, mark_of, done_count, is_ta
 use Rattle.tickets.specs.Weights.{weight, weigh, one_at}
 use Rattle.tickets.proofs.Tables.{raise-taken, taken_parts, one_standing}
 use Rattle.task.specs.Task.{TaskView, is_graced}
-use Rattle.task.specs.declared.messages.ControlMessage.{ControlMessage}
 use Rattle.task.specs.declared.messages.GraceEnd.{GraceEnd}
 use Rattle.task.specs.declared.messages.GraceEnd.TheVariants.{Stop, Restart}
 use Rattle.task.specs.declared.task.Outcome.{Outcome}
@@ -18,11 +17,10 @@ use Rattle.task.specs.declared.task.Outcome.TheVariants.{Settled, Ended, Graced,
 use Rattle.task.specs.declared.task.PollOutcome.{PollOutcome}
 use Rattle.task.specs.declared.task.PollOutcome.TheVariants.{Over, Renewed}
 use Rattle.supervisor.specs.declared.mailbox.Received.{Received}
-use Rattle.supervisor.specs.declared.mailbox.Source.TheVariants as Sources
 use Rattle.supervisor.specs.declared.timer.Timer.{Timer}
 use Rattle.supervisor.specs.Job.{JobView, control_end, poll_end}
-use Rattle.supervisor.specs.Mailbox.{MailboxView, NextResult, TakeResult, raise_at_end, with_timer, message_from, with_queues, take_normal, take_high, take_urgent, take_from_queues, take_due, take}
-use Rattle.supervisor.specs.Timers.{memory_of, memory, timer_message, due_message}
+use Rattle.supervisor.specs.Mailbox.{MailboxView, TakeResult, raise_at_end, with_timer, take}
+use Rattle.supervisor.specs.Timers.{memory}
 use Rattle.supervisor.specs.Sound.{IsInOrder, weigh_waiting}
 use Rattle.drive.specs.Follows.{message_of, timer_of, is_raised, Agrees}
 use Rattle.drive.specs.Original as Original

@@ -26,17 +26,16 @@ use Rattle.supervisor.specs.Laws.{TakesWhenDue}
 use Rattle.supervisor.specs.Mailbox as Mail
 use Rattle.supervisor.specs.Mailbox.{TakeResult, take, may_send, MailboxView, admit_all, admit}
 use Rattle.supervisor.specs.Sends.{priority_of, controls_of}
-use Rattle.supervisor.specs.Steps.{Moment, moment, job_view, step_end, Steps}
+use Rattle.supervisor.specs.Steps.{Moment, moment, job_view, step_end}
 use Rattle.supervisor.specs.Timers.{owed_starts, memory}
 use Rattle.supervisor.specs.declared.answers.StepKind.{StepKind}
 use Rattle.supervisor.specs.declared.answers.StepKind.TheVariants.{Control, Child, Pause}
-use Rattle.supervisor.specs.declared.answers.Stepped.{Stepped}
 use Rattle.supervisor.specs.declared.errors.Refusal.{Refusal}
 use Rattle.supervisor.specs.declared.job.Job.{Job}
 use Rattle.supervisor.specs.declared.queues.Priority.{Priority}
 use Rattle.supervisor.specs.declared.sends.Send.{Send}
 use Rattle.supervisor.specs.Sound.{IsInOrder}
-use Rattle.drive.specs.Answers.{done_without, step_done}
+use Rattle.drive.specs.Answers.{done_without}
 use Rattle.drive.specs.Calls.{Makes, AnswersAlone, known_ticket, as_value, send_value, pause_value, look_value, collect_value}
 use Rattle.drive.specs.Laws.{accepted_controls, collects, IsFair, BooksFit, job_at, place_count, IsLawful, AtEach, KeepsLaws}
 use Rattle.drive.specs.declared.calls.Call.{Call}
@@ -176,27 +175,27 @@ module _ {H T : Type 0} (by_host : Host.Ghosts H) (by_terminal : Terminal.Ghosts
       let own = (by_terminal.book a.terminal).own in
       step_cases (λ d b. CountsSpawns by_host a d b → Goes (Calls.Step kind time) a d b) (λ r may f. still_goes (Calls.Step kind time) a (Err r) refl)
       (λ s may k counted.
-          let trace = k.conducts.trace in
-          let end = step_end b.job s in
-          let free = not_closed time (length a.sheet) v may in
-          let moves : Ends v end = step_moves kind time v _ end (way_of kind own time a b s k) in
-          let way = way_traced time v (IsAnswered by_host by_terminal) kind own a.job.granted _ _ trace end k.conducts.traces in
-          let fits = λ (h : HostBook) (u : TerminalBook) (f : Fitting v.task h u). step_fits time v kind _ _ free (way h u f) in
-          let starts : StepFits v (after (fitting_host v.task) (fitting_terminal v.task) trace) end =
-          fits (fitting_host v.task) (fitting_terminal v.task) (fitting v.task) in
-          record {
-            fair = record { issued = moves.issued; taken = moves.orders; spawned = counted; tickets = λ k l _. moves.tickets k l refl; refused = tt };
-            books = λ f.
-                let host = by_host.book a.host in
-                let terminal = by_terminal.book a.terminal in
-                let step : StepFits v (after host terminal trace) end = fits host terminal (record { roster = rw free at f.roster; grants = f.grants }) in
-                record {
-                  roster = ap (λ x. x.roster) k.host_book ∙ step.roster;
-                  grants = ap (λ x. x.grants) k.terminal_book ∙ step.grants;
-                  holder = holds b.job;
-                };
-            starts = omega (arith, starts.starts, journal-spawns trace, tried-spawns k);
-          })
+      let trace = k.conducts.trace in
+      let end = step_end b.job s in
+      let free = not_closed time (length a.sheet) v may in
+      let moves : Ends v end = step_moves kind time v _ end (way_of kind own time a b s k) in
+      let way = way_traced time v (IsAnswered by_host by_terminal) kind own a.job.granted _ _ trace end k.conducts.traces in
+      let fits = λ (h : HostBook) (u : TerminalBook) (f : Fitting v.task h u). step_fits time v kind _ _ free (way h u f) in
+      let starts : StepFits v (after (fitting_host v.task) (fitting_terminal v.task) trace) end =
+      fits (fitting_host v.task) (fitting_terminal v.task) (fitting v.task) in
+      record {
+        fair = record { issued = moves.issued; taken = moves.orders; spawned = counted; tickets = λ k l _. moves.tickets k l refl; refused = tt };
+        books = λ f.
+            let host = by_host.book a.host in
+            let terminal = by_terminal.book a.terminal in
+            let step : StepFits v (after host terminal trace) end = fits host terminal (record { roster = rw free at f.roster; grants = f.grants }) in
+            record {
+              roster = ap (λ x. x.roster) k.host_book ∙ step.roster;
+              grants = ap (λ x. x.grants) k.terminal_book ∙ step.grants;
+              holder = holds b.job;
+            };
+        starts = omega (arith, starts.starts, journal-spawns trace, tried-spawns k);
+      })
       made (makes-spawns by_host by_terminal a (Calls.Step kind time) d b made)
 
   pub goes : (c : Call) (a : Moment H T) (d : Done) (b : Moment H T) → Makes by_host by_terminal c a d b → Goes c a d b
