@@ -34,7 +34,7 @@ use Rattle.drive.proofs.Flagged.{MatchesTickets, state_of, original_of, same_ori
 -- ONE STEP
 
 -- a trace of a tree whose value something is made of
-pub traces_made : {S A B : Type 0} (did : S → (c : Call) → Reply c → S → Type 0) (t : Interaction A) (g : A → B) (s s' : S) (p : List Event) (y : B)
+traces_made : {S A B : Type 0} (did : S → (c : Call) → Reply c → S → Type 0) (t : Interaction A) (g : A → B) (s s' : S) (p : List Event) (y : B)
     → Traces did (bind t (λ x. done (g x))) s p y s' → (x : A) × Traces did t s p x s' × (y ≡ g x)
 traces_made did (done x) g s s' p y h = (x, (h.0, refl, h.2), h.1)
 traces_made did (ask c k) g s s' p y h =

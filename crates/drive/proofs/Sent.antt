@@ -52,12 +52,9 @@ give_matches held k {closed} {raised} room none h =
 
 admitted_later : (p : Priority) (c : Control) (held : Bool) (m : MailboxView) → 1 ≤ free_places m.tickets.table → HasNoneLater m
     → HasNoneLater (admit p c held m)
-admitted_later p c held m room none s l = grind (
-  arith,
-  nat_tests,
-  put-weight is_taken (m.tickets.issued + 1) (new_mark held) m.tickets.table room (one_at s),
-  none s (omega arith),
-)
+admitted_later p c held m room none s l =
+    let more = put-weight is_taken (m.tickets.issued + 1) (new_mark held) m.tickets.table room (one_at s) in
+    grind (arith, nat_tests, more, none s (omega arith))
 
 admit_all_matches : (p : Priority) (cs : List Control) (m : MailboxView) {closed : Bool} {raised : List ℕ}
     → ticket_room (length cs) m.tickets.issued m.tickets.table ≡ true → HasNoneLater m → MatchesTickets closed m.tickets raised
@@ -74,12 +71,12 @@ admit_all_matches p (c ∷ d ∷ cs) m room none h =
     (admitted_later p c false m place none) one
 
 -- the original prepares a message as the mailbox admits it
-prepare_same : (p : Priority) (c : Control) (held : Bool) (v : JobView) (raised : List ℕ) → Original.prepare p c (original_of v raised) ≡ original_of
-    (with_mailbox (admit p c held v.mailbox) v) raised
+prepare_same : (p : Priority) (c : Control) (held : Bool) (v : JobView) (raised : List ℕ)
+    → Original.prepare p c (original_of v raised) ≡ original_of (with_mailbox (admit p c held v.mailbox) v) raised
 prepare_same p c held v raised = grind (arith, common_steps, map-append)
 
-send_all_same : (p : Priority) (cs : List Control) (v : JobView) (raised : List ℕ) → Original.send_all p cs (original_of v raised) ≡ original_of
-    (with_mailbox (admit_all p cs v.mailbox) v) raised
+send_all_same : (p : Priority) (cs : List Control) (v : JobView) (raised : List ℕ)
+    → Original.send_all p cs (original_of v raised) ≡ original_of (with_mailbox (admit_all p cs v.mailbox) v) raised
 send_all_same p [] v raised = refl
 send_all_same p (c ∷ []) v raised = prepare_same p c true v raised
 send_all_same p (c ∷ d ∷ cs) v raised = rw (prepare_same p c false v raised) (send_all_same p (d ∷ cs) (with_mailbox (admit p c false v.mailbox) v) raised)
@@ -94,8 +91,8 @@ send_agrees s {v} {o} none a k = rw (same_send s o, same_original a) (by v.close
   where
     admits : (r : Result ⊤ Refusal) → may_send (priority_of s) (controls_of s) v.mailbox ≡ r → v.closed ≡ false
         → is_ok (as_value Ticket (Mail.send_if r (priority_of s) (controls_of s) v.mailbox).1) ≡ true
-        → Agrees (Job.after_send (Mail.send_if r (priority_of s) (controls_of s) v.mailbox) v).0 (Original.send_all (priority_of s) (controls_of s)
-        (original_of v o.raised))
+        → Agrees (Job.after_send (Mail.send_if r (priority_of s) (controls_of s) v.mailbox) v).0
+        (Original.send_all (priority_of s) (controls_of s) (original_of v o.raised))
     admits (Ok u) l e k = rw (send_all_same (priority_of s) (controls_of s) v o.raised)
         (agree (admit_all_matches (priority_of s) (controls_of s) v.mailbox (grind (arith, l)) (none e) (tickets_match a)))
     admits (Err r) l e k = cc k
@@ -113,14 +110,14 @@ pub pause_agrees : (signal : ℕ) {v : JobView} {o : Original.Original} → Agre
     → Agrees (pause_value signal v).0 (Original.notice signal o)
 pause_agrees signal {v} {o} a k = rw (same_original a) (by (Job.may_pause signal v) k)
   where
-    by : (r : Result ⊤ Refusal) → is_ok (with_nothing (Job.pause_if r signal v)).1 ≡ true → Agrees (Job.pause_if r signal v).0
-        (Original.notice signal (original_of v o.raised))
+    by : (r : Result ⊤ Refusal) → is_ok (with_nothing (Job.pause_if r signal v)).1 ≡ true
+        → Agrees (Job.pause_if r signal v).0 (Original.notice signal (original_of v o.raised))
     by (Ok u) k = agree (tickets_match a)
     by (Err r) k = cc k
 
 -- a raised ticket that leaves its place is settled all the same
-vacated_settled : (s t : ℕ) (es : Table) → weight is_taken (one_at s) es ≤ 1 → mark_of t es ≡ Some Raised → done_count (mark_of s (vacate t es)) ≡ done_count
-    (mark_of s es)
+vacated_settled : (s t : ℕ) (es : Table) → weight is_taken (one_at s) es ≤ 1 → mark_of t es ≡ Some Raised
+    → done_count (mark_of s (vacate t es)) ≡ done_count (mark_of s es)
 vacated_settled s t es once h =
     let standing = one_standing s (vacate t es) in
     grind (arith, nat_tests, found-vacate s t es, one_standing s es, standing, vacate-taken t es (one_at s), vacate_waiting t es h (one_at s), h)
