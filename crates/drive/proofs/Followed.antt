@@ -29,10 +29,6 @@ use Rattle.drive.proofs.Originals.{branch_comes}
 use Rattle.drive.proofs.Steps.{step_cases}
 use Rattle.drive.proofs.Sent.{send_agrees, pause_agrees, collect_agrees}
 
--- a fresh job, and a fresh original
-fresh_agrees : (c : Command) → Agrees (Job.fresh_job c) (Original.fresh_original c)
-fresh_agrees c = agree (record { later = λ s l. refl; same = λ e s l k. absurd (omega (arith, l, k)) })
-
 module _ {H T : Type 0} (by_host : Host.Ghosts H) (by_terminal : Terminal.Ghosts T) (am : Amendments) where
   -- the original does its part, and agrees afterwards
   abbrev Comes : Call → Moment H T → Original.Original → Done → Moment H T → Type 0
@@ -102,7 +98,7 @@ originals {H} {T} by_host by_terminal cs a ts b h = record {
       let amended = linked_so (Makes by_host by_terminal) (IsUntouched by_host by_terminal all_amendments) amends cs a ts b h in
       follow by_host by_terminal all_amendments cs a o ts b agrees amended h;
   untouched = λ o agrees u. follow by_host by_terminal no_amendments cs a o ts b agrees u h;
-  from_fresh = λ c e. rw e (fresh_agrees c);
+  from_fresh = λ c e. rw e (agree (record { later = λ s l. refl; same = λ _ s l k. absurd (omega (arith, l, k)) }));
 }
   where
     amends : (c : Call) (a : Moment H T) (d : Done) (b : Moment H T) → Makes by_host by_terminal c a d b → IsUntouched by_host by_terminal all_amendments c a d

@@ -79,8 +79,8 @@ module _ {H T : Type 0} (by_host : Host.Ghosts H) (by_terminal : Terminal.Ghosts
 
   -- all calls were made
   pub all_made : {calls : List Call} {i : ℕ} {a : Moment H T} {xs : List (Result Value Refusal)} {tally : Tally} {b : Moment H T}
-      {ys : List (Result Value Refusal)} → i ≡ length calls → SoFar calls i a xs tally.tried tally.ordered b ys → Drives by_host by_terminal calls a xs tally b
-      ys
+      {ys : List (Result Value Refusal)} → i ≡ length calls → SoFar calls i a xs tally.tried tally.ordered b ys
+      → Drives by_host by_terminal calls a xs tally b ys
   all_made {calls} {i} {a} {xs} {tally} {b} {ys} e h =
       let all : Linked (Makes by_host by_terminal) calls a h.turns b = rw (take_all i calls (omega arith)) at h.linked in
       record {

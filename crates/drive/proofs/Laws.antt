@@ -150,22 +150,20 @@ module _ {H T : Type 0} (by_host : Host.Ghosts H) (by_terminal : Terminal.Ghosts
   quiet_goes c f k a d b q made =
       let v = job_view a.job in
       let keeps = subst (λ (x : JobView × Result Value Refusal). Keeps c v x) (sym q.answers.answer) (k v) in
-      let moves = keeps.0 in
-      let same = keeps.1 in
       record {
         fair = record {
-          issued = moves.issued;
-          taken = omega (arith, moves.orders, ap (λ (x : Done). x.tally.ordered) q.does);
+          issued = keeps.0.issued;
+          taken = omega (arith, keeps.0.orders, ap (λ (x : Done). x.tally.ordered) q.does);
           spawned = makes-spawns by_host by_terminal a c d b made;
-          tickets = λ s l e. moves.tickets s l (rw e refl);
+          tickets = λ s l e. keeps.0.tickets s l (rw e refl);
           refused = unchanged a b d.answer q.answers.unchanged q.host q.terminal q.sheet;
         };
         books = λ h. record {
-          roster = ap (λ x. (by_host.book x).roster) q.host ∙ h.roster ∙ sym same.children;
-          grants = ap (λ x. (by_terminal.book x).grants) q.terminal ∙ h.grants ∙ ap from_bool (sym same.grant);
+          roster = ap (λ x. (by_host.book x).roster) q.host ∙ h.roster ∙ sym keeps.1.children;
+          grants = ap (λ x. (by_terminal.book x).grants) q.terminal ∙ h.grants ∙ ap from_bool (sym keeps.1.grant);
           holder = holds b.job;
         };
-        starts = omega (arith, same.owed, ap (λ (x : Done). x.tally.tried) q.does, ap (λ (x : Done). x.tally.ordered) q.does);
+        starts = omega (arith, keeps.1.owed, ap (λ (x : Done). x.tally.tried) q.does, ap (λ (x : Done). x.tally.ordered) q.does);
       }
 
   step_goes : (kind : StepKind) (time : ℕ) (a : Moment H T) (d : Done) (b : Moment H T) → Makes by_host by_terminal (Calls.Step kind time) a d b
