@@ -1,7 +1,6 @@
 -- The original follows a run of the job, call by call.
 use Rattle.std.proofs.Common.{◌≡◌, ℕ, true, is_ok, Ok, Err, Result, List, [], ◌∷◌, length, refl, sym, ap, subst, ◌∙◌, arith}
 use Rattle.std.specs.Prelude.{OnErr}
-use Rattle.host.specs.declared.command.Command.{Command}
 use Rattle.host.specs.declared.journal.Record.{Record}
 use Rattle.host.specs.declared.process.Host as Host
 use Rattle.host.specs.declared.terminal.Terminal as Terminal
@@ -10,7 +9,6 @@ use Rattle.host.specs.Journal.{journal}
 use Rattle.task.proofs.Sheets.{records_are}
 use Rattle.supervisor.specs.declared.answers.StepKind.{StepKind}
 use Rattle.supervisor.specs.declared.errors.Refusal.{Refusal}
-use Rattle.supervisor.specs.Job as Job
 use Rattle.supervisor.specs.Job.{JobView, may_step, tree_of}
 use Rattle.supervisor.specs.Steps.{Moment, job_view, step_end}
 use Rattle.supervisor.proofs.Steps.{not_closed}
