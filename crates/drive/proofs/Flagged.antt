@@ -1,6 +1,6 @@
 -- The mailbox of a job and the flags of the original, from one step to the next.
-use Rattle.std.proofs.Common.{◌≡◌, ℕ, ◌+◌, ◌<◌, ◌≤◌, Bool, true, false, if◌then◌else◌, Some, None, is_some, Option, List, [], ◌∷◌, ◌++◌, refl, arith}
-use Rattle.std.specs.Prelude.{◌==◌, nat_le, map}
+use Rattle.std.proofs.Common.{◌≡◌, ℕ, ◌+◌, ◌<◌, ◌≤◌, Bool, true, false, if◌then◌else◌, Some, None, Option, List, [], ◌∷◌, ◌++◌, refl, arith}
+use Rattle.std.specs.Prelude.{◌==◌, map}
 use Rattle.std.specs.Int.{from_bool}
 use Rattle.std.specs.Option.{option_map}
 use Rattle.std.proofs.lemmas.Bool.Decides.{nat_tests}
@@ -10,7 +10,6 @@ use Rattle.tickets.specs.Tickets.{Table, TicketsView, mark_of, done_count, is_ta
 use Rattle.tickets.specs.Weights.{weight, weigh, one_at}
 use Rattle.tickets.proofs.Tables.{raise-taken, taken_parts, one_standing}
 use Rattle.task.specs.Task.{TaskView, is_graced}
-use Rattle.task.specs.declared.messages.ControlMessage.{ControlMessage}
 use Rattle.task.specs.declared.messages.GraceEnd.{GraceEnd}
 use Rattle.task.specs.declared.messages.GraceEnd.TheVariants.{Stop, Restart}
 use Rattle.task.specs.declared.task.Outcome.{Outcome}
@@ -18,11 +17,10 @@ use Rattle.task.specs.declared.task.Outcome.TheVariants.{Settled, Ended, Graced,
 use Rattle.task.specs.declared.task.PollOutcome.{PollOutcome}
 use Rattle.task.specs.declared.task.PollOutcome.TheVariants.{Over, Renewed}
 use Rattle.supervisor.specs.declared.mailbox.Received.{Received}
-use Rattle.supervisor.specs.declared.mailbox.Source.TheVariants as Sources
 use Rattle.supervisor.specs.declared.timer.Timer.{Timer}
 use Rattle.supervisor.specs.Job.{JobView, control_end, poll_end}
-use Rattle.supervisor.specs.Mailbox.{MailboxView, NextResult, TakeResult, raise_at_end, with_timer, message_from, with_queues, take_normal, take_high, take_urgent, take_from_queues, take_due, take}
-use Rattle.supervisor.specs.Timers.{memory_of, memory, timer_message, due_message}
+use Rattle.supervisor.specs.Mailbox.{MailboxView, TakeResult, raise_at_end, with_timer, take}
+use Rattle.supervisor.specs.Timers.{memory}
 use Rattle.supervisor.specs.Sound.{IsInOrder, weigh_waiting}
 use Rattle.drive.specs.Follows.{message_of, timer_of, is_raised, Agrees}
 use Rattle.drive.specs.Original as Original
@@ -33,7 +31,8 @@ use Rattle.drive.proofs.Arms.{with_task}
 -- RAISED
 
 -- of a table with one place for it at most: a ticket that is raised is settled, and any other as it was
-raise-settled : (s t : ℕ) (es : Table) → weight is_taken (one_at s) es ≤ 1 → done_count (mark_of s (raise t es)) ≡ (if s == t then 1 else done_count (mark_of s es))
+raise-settled : (s t : ℕ) (es : Table) → weight is_taken (one_at s) es ≤ 1 → done_count (mark_of s (raise t es))
+    ≡ (if s == t then 1 else done_count (mark_of s es))
 raise-settled s t [] h = grind (arith, common_steps)
 raise-settled s t (e ∷ es) h = grind (arith, common_steps, nat_tests, raise-settled s t es, taken_parts (one_at s) es, one_standing s es)
 
@@ -53,13 +52,20 @@ once_each : (ts : List ℕ) (es : Table) → OnceIn es → OnceIn (raise_each ts
 once_each [] es once = once
 once_each (t ∷ ts) es once = once_each ts (raise t es) (λ s. omega (arith, raise-taken t es (one_at s), once s))
 
-each_matches : (ts : List ℕ) (k : TicketsView) {closed : Bool} {raised : List ℕ} → OnceIn k.table → Made k.issued ts → MatchesTickets closed k raised → MatchesTickets closed (record k { table = raise_each ts k.table }) (ts ++ raised)
+each_matches : (ts : List ℕ) (k : TicketsView) {closed : Bool} {raised : List ℕ} → OnceIn k.table → Made k.issued ts → MatchesTickets closed k raised
+    → MatchesTickets closed (record k { table = raise_each ts k.table }) (ts ++ raised)
 each_matches [] k once made h = h
 each_matches (t ∷ ts) k {closed} {raised} once made h =
     let one = record k { table = raise t k.table } in
-    let first : MatchesTickets closed one (t ∷ raised) = record { later = λ s l. grind (arith, common_steps, made s l, h.later s l); same = λ e s i j. grind (arith, common_steps, raise-settled s t k.table (once s), h.same e s i j) } in
+    let first : MatchesTickets closed one (t ∷ raised) = record {
+      later = λ s l. grind (arith, common_steps, made s l, h.later s l);
+      same = λ e s i j. grind (arith, common_steps, raise-settled s t k.table (once s), h.same e s i j);
+    } in
     let rest = each_matches ts one (once_each (t ∷ []) k.table once) (λ s l. grind (arith, common_steps, made s l)) first in
-    record { later = λ s l. grind (arith, common_steps, list_any-append, rest.later s l); same = λ e s i j. grind (arith, common_steps, list_any-append, rest.same e s i j) }
+    record {
+      later = λ s l. grind (arith, common_steps, list_any-append, rest.later s l);
+      same = λ e s i j. grind (arith, common_steps, list_any-append, rest.same e s i j);
+    }
 
 -- a ticket that weighs nothing in a list is not in it
 none_weighs : (s : ℕ) (ts : List ℕ) → weigh (one_at s) ts ≡ 0 → is_raised s ts ≡ false
@@ -83,12 +89,10 @@ timer_made m t e h s l = none_weighs s (t.ticket ∷ []) (grind (arith, none_lat
 
 -- the original with a task, a mailbox, the raised flags, and whether the job is closed
 abbrev pub state_of : TaskView → MailboxView → List ℕ → Bool → Original.Original
-state_of t m raised gone = record {
-  command = t.command; pause_rx = t.foreground.pauses; error_handler = t.settings.handler; spawn_hook = t.settings.hook; spawner = t.settings.way;
-  command_state = t.state; previous_run = t.previous; foreground_grant = t.foreground.grant; pause_watch = t.foreground.watch; paused = t.foreground.paused;
-  normal = map message_of m.queues.normal; high = map message_of m.queues.high; urgent = map message_of m.queues.urgent;
-  stop_timer = option_map timer_of m.timer; on_end_restart = memory m.timer; on_end = m.ending; flags = m.tickets.issued; raised = raised; gone = gone;
-}
+state_of t m raised gone =
+    let queues = record (Original.fresh_original t.command) { normal = map message_of m.queues.normal; high = map message_of m.queues.high } in
+    let timer = record queues { urgent = map message_of m.queues.urgent; stop_timer = option_map timer_of m.timer; on_end_restart = memory m.timer } in
+    with_task t (record timer { on_end = m.ending; flags = m.tickets.issued; raised = raised; gone = gone })
 
 abbrev pub original_of : JobView → List ℕ → Original.Original
 original_of v raised = state_of v.task v.mailbox raised v.closed
@@ -102,37 +106,19 @@ pub tickets_match : {v : JobView} {o : Original.Original} → Agrees v o → Mat
 tickets_match a = record { later = a.later; same = a.raised }
 
 pub agree : {v : JobView} {raised : List ℕ} → MatchesTickets v.closed v.mailbox.tickets raised → Agrees v (original_of v raised)
-agree h = record {
-  command = refl;
-  state = refl;
-  previous = refl;
-  handler = refl;
-  hook = refl;
-  way = refl;
-  paused = refl;
-  pauses = refl;
-  watch = refl;
-  grant = refl;
-  normal = refl;
-  high = refl;
-  urgent = refl;
-  timer = refl;
-  memory = refl;
-  ending = refl;
-  issued = refl;
-  closed = refl;
-  later = h.later;
-  raised = h.same;
-}
+agree h = search (h.later, h.same)
 
 -- OUTCOMES
 
 -- a control that has had an outcome
-pub settle_agrees : (now : ℕ) (before : TaskView) (r : Received) (m : MailboxView) (x : TaskView × Outcome) {raised : List ℕ} → IsInOrder (r.message.ticket ∷ []) m → (is_graced x.1 ≡ true → m.timer ≡ None) → MatchesTickets false m.tickets raised → Agrees (control_end now r m x).view (with_task x.0 (Arms.settled now r.message.ticket x.1 (state_of before m raised false)))
+pub settle_agrees : (now : ℕ) (before : TaskView) (r : Received) (m : MailboxView) (x : TaskView × Outcome) {raised : List ℕ}
+    → IsInOrder (r.message.ticket ∷ []) m → (is_graced x.1 ≡ true → m.timer ≡ None) → MatchesTickets false m.tickets raised
+    → Agrees (control_end now r m x).view (with_task x.0 (Arms.settled now r.message.ticket x.1 (state_of before m raised false)))
 settle_agrees now before r m (t, Settled) order free h = agree (each_matches (r.message.ticket ∷ []) m.tickets order.once (hand_made order) h)
 settle_agrees now before r m (t, Ended) order free h =
     let ended = each_matches m.ending m.tickets order.once (ending_made order) h in
-    agree (each_matches (r.message.ticket ∷ []) (record m.tickets { table = raise_each m.ending m.tickets.table }) (once_each m.ending m.tickets.table order.once) (hand_made order) ended)
+    agree (each_matches (r.message.ticket ∷ []) (record m.tickets { table = raise_each m.ending m.tickets.table })
+    (once_each m.ending m.tickets.table order.once) (hand_made order) ended)
 settle_agrees now before r m (t, Graced grace Stop) order free h = rw (free refl) (agree h)
 settle_agrees now before r m (t, Graced grace Restart) order free h = agree h
 settle_agrees now before r m (t, Joined) order free h = agree h
@@ -141,23 +127,30 @@ settle_agrees now before r m (t, Closes) order free h =
     agree (record { later = closed.later; same = λ _. closed.same refl })
 
 -- a poll of the child
-pub poll_agrees : (now : ℕ) (v : JobView) (x : TaskView × PollOutcome) {raised : List ℕ} → IsInOrder [] v.mailbox → MatchesTickets v.closed v.mailbox.tickets raised → Agrees (poll_end now v x).view (with_task x.0 (Arms.seen x.1 (original_of v raised)))
+pub poll_agrees : (now : ℕ) (v : JobView) (x : TaskView × PollOutcome) {raised : List ℕ} → IsInOrder [] v.mailbox
+    → MatchesTickets v.closed v.mailbox.tickets raised → Agrees (poll_end now v x).view (with_task x.0 (Arms.seen x.1 (original_of v raised)))
 poll_agrees now v x {raised} order h = by v.mailbox.timer x.1 order
   where
     -- the timer's ticket, and those of the ending list
-    ended : (t : Timer) → IsInOrder [] (with_timer (Some t) v.mailbox) → MatchesTickets v.closed (raise_at_end (with_timer (Some t) v.mailbox)).tickets (v.mailbox.ending ++ t.ticket ∷ raised)
+    ended : (t : Timer) → IsInOrder [] (with_timer (Some t) v.mailbox) → MatchesTickets v.closed (raise_at_end (with_timer (Some t) v.mailbox)).tickets
+        (v.mailbox.ending ++ t.ticket ∷ raised)
     ended t order =
         let m = with_timer (Some t) v.mailbox in
         let one = each_matches (t.ticket ∷ []) m.tickets order.once (timer_made m t refl order) h in
-        each_matches m.ending (record m.tickets { table = raise t.ticket m.tickets.table }) (once_each (t.ticket ∷ []) m.tickets.table order.once) (ending_made order) one
+        each_matches m.ending (record m.tickets { table = raise t.ticket m.tickets.table }) (once_each (t.ticket ∷ []) m.tickets.table order.once)
+        (ending_made order) one
 
-    by : (k : Option Timer) (o : PollOutcome) → IsInOrder [] (with_timer k v.mailbox) → Agrees (poll_end now (record v { mailbox = with_timer k v.mailbox }) (x.0, o)).view (with_task x.0 (Arms.seen o (state_of v.task (with_timer k v.mailbox) raised v.closed)))
+    by : (k : Option Timer) (o : PollOutcome) → IsInOrder [] (with_timer k v.mailbox)
+        → Agrees (poll_end now (record v { mailbox = with_timer k v.mailbox }) (x.0, o)).view
+        (with_task x.0 (Arms.seen o (state_of v.task (with_timer k v.mailbox) raised v.closed)))
     by None Over order = agree (each_matches v.mailbox.ending v.mailbox.tickets order.once (ending_made order) h)
     by None Renewed order = agree (each_matches v.mailbox.ending v.mailbox.tickets order.once (ending_made order) h)
     by (Some t) Over order = agree (ended t order)
     by (Some t) Renewed order = again t.end order
       where
-        again : (e : GraceEnd) → IsInOrder [] (with_timer (Some (record t { end = e })) v.mailbox) → Agrees (poll_end now (record v { mailbox = with_timer (Some (record t { end = e })) v.mailbox }) (x.0, Renewed)).view (with_task x.0 (Arms.seen Renewed (state_of v.task (with_timer (Some (record t { end = e })) v.mailbox) raised v.closed)))
+        again : (e : GraceEnd) → IsInOrder [] (with_timer (Some (record t { end = e })) v.mailbox)
+            → Agrees (poll_end now (record v { mailbox = with_timer (Some (record t { end = e })) v.mailbox }) (x.0, Renewed)).view
+            (with_task x.0 (Arms.seen Renewed (state_of v.task (with_timer (Some (record t { end = e })) v.mailbox) raised v.closed)))
         again Stop order = agree (ended (record t { end = Stop }) order)
         again Restart order =
             let u = record t { end = Restart } in
@@ -172,53 +165,10 @@ poll_agrees now v x {raised} order h = by v.mailbox.timer x.1 order
 abbrev pub Forgets : Amendments → ℕ → MailboxView → Type 0
 Forgets am now m = (t : Timer) → m.timer ≡ Some t → t.deadline ≤ now → t.end ≡ Restart → am.forgets ≡ true
 
-module _ (t : TaskView) (m : MailboxView) (raised : List ℕ) (gone : Bool) where
-  -- what is taken from the mailbox, as the original receives it
-  abbrev pub as_received : TakeResult → Original.RecvResult
-  as_received k = option_map (λ x. (message_of x.0.message, state_of t x.1 raised gone)) k
+-- what is taken from a mailbox, as the original receives it
+abbrev pub as_received : TaskView → List ℕ → Bool → TakeResult → Original.RecvResult
+as_received t raised gone k = option_map (λ x. (message_of x.0.message, state_of t x.1 raised gone)) k
 
-  abbrev original : Original.Original
-  original = state_of t m raised gone
-
-  abbrev next_received : NextResult → Original.RecvResult
-  next_received k = as_received (option_map (λ x. (message_from x.0 Sources.Queue, with_queues x.1 m)) k)
-
-  normal_received : (waits : Bool) (cs : List ControlMessage) → Original.recv_normal waits (map message_of cs) original ≡ next_received (take_normal waits cs m.queues)
-  normal_received true cs = refl
-  normal_received false [] = refl
-  normal_received false (c ∷ cs) = refl
-
-  high_received : (waits : Bool) (cs : List ControlMessage) → Original.recv_high waits (map message_of cs) original ≡ next_received (take_high waits cs m.queues)
-  high_received waits [] = normal_received waits m.queues.normal
-  high_received waits (c ∷ cs) = refl
-
-  urgent_received : (waits : Bool) (cs : List ControlMessage) → Original.recv_urgent waits (map message_of cs) original ≡ next_received (take_urgent waits cs m.queues)
-  urgent_received waits [] = high_received waits m.queues.high
-  urgent_received waits (c ∷ cs) = refl
-
-  queues_received : Original.recv_urgent (is_some original.stop_timer) original.urgent original ≡ as_received (take_from_queues m)
-  queues_received = rw (waits m.timer) (urgent_received (is_some m.timer) m.queues.urgent)
-    where
-      waits : (k : Option Timer) → is_some (option_map timer_of k) ≡ is_some k
-      waits None = refl
-      waits (Some k) = refl
-
-  pub recv-received : (am : Amendments) (now : ℕ) → Forgets am now m → Original.recv am now original ≡ as_received (take now m)
-  recv-received am now forgets = by m.timer refl
-    where
-      -- the restart that the timer continues is forgotten, if there is one
-      message : (k : Timer) (end : GraceEnd) → (end ≡ Restart → am.forgets ≡ true) → Original.recv_timer am (Some (timer_of (record k { end = end }))) (record original { on_end_restart = memory_of end k.ticket }) ≡ as_received (take_due (Some (timer_message (record k { end = end }))) m)
-      message k Stop z = rw (none am.forgets) refl
-        where
-          none : (b : Bool) → let nothing : Option ℕ = None in (if b then nothing else None) ≡ None
-          none true = refl
-          none false = refl
-      message k Restart z = rw (z refl) refl
-
-      past : (k : Timer) (is : Bool) → m.timer ≡ Some k → nat_le k.deadline now ≡ is → Original.recv_timer am (if is then Some (timer_of k) else None) original ≡ as_received (take_due (if is then Some (timer_message k) else None) m)
-      past k true e l = rw e (message k k.end (λ s. forgets k e (grind (arith, nat_tests, l)) s))
-      past k false e l = queues_received
-
-      by : (k : Option Timer) → m.timer ≡ k → Original.recv_timer am (Original.is_past now (option_map timer_of k)) original ≡ as_received (take_due (due_message now k) m)
-      by None e = queues_received
-      by (Some k) e = past k (nat_le k.deadline now) e refl
+pub recv-received : (t : TaskView) (m : MailboxView) (raised : List ℕ) (gone : Bool) (am : Amendments) (now : ℕ) → Forgets am now m
+    → Original.recv am now (state_of t m raised gone) ≡ as_received t raised gone (take now m)
+recv-received t m raised gone am now forgets = grind (arith, common_steps, nat_tests, forgets)

@@ -12,13 +12,13 @@ use Rattle.task.specs.declared.messages.ControlMessage.{ControlMessage}
 use Rattle.std.proofs.lemmas.List.Sums.{sum_by-cons}
 use Rattle.task.specs.declared.messages.Control.{Control}
 use Rattle.task.specs.declared.task.Outcome.{Outcome}
-use Rattle.task.specs.declared.task.Outcome.TheVariants.{Settled, Ended, Graced, Joined, Closes}
+use Rattle.task.specs.declared.task.Outcome.TheVariants.{Settled, Ended, Closes}
 use Rattle.task.specs.declared.task.PollOutcome.{PollOutcome}
 use Rattle.task.specs.declared.task.PollOutcome.TheVariants.{Over, Renewed}
 use Rattle.supervisor.specs.declared.mailbox.Received.{Received}
 use Rattle.supervisor.specs.declared.queues.Priority.{Priority}
 use Rattle.supervisor.specs.declared.timer.Timer.{Timer}
-use Rattle.supervisor.specs.Mailbox.{MailboxView, QueuesView, message, enqueue, admit, admit_all, with_timer, raise_ticket, raise_endings, next, take_urgent, take, orders_start, settle, raise_timer, raise_at_end, raise_again, settle_poll, vacate_ticket}
+use Rattle.supervisor.specs.Mailbox.{MailboxView, QueuesView, message, enqueue, admit, admit_all, raise_ticket, raise_endings, next, take_urgent, take, orders_start, settle, raise_timer, raise_at_end, raise_again, settle_poll, vacate_ticket}
 use Rattle.supervisor.specs.Timers.{memory}
 use Rattle.drive.specs.Laws.{orders_in, waiting_orders}
 
@@ -33,7 +33,8 @@ abbrev pub any : ℕ → Bool
 any s = true
 
 -- the queues stay, and each ticket that p picks goes on
-stays : {p : ℕ → Bool} {m n : MailboxView} → n.queues ≡ m.queues → n.tickets.issued ≡ m.tickets.issued → ((s : ℕ) → p s ≡ true → goes_on (mark_of s m.tickets.table) (mark_of s n.tickets.table) ≡ true) → Moves 0 0 0 p m n
+stays : {p : ℕ → Bool} {m n : MailboxView} → n.queues ≡ m.queues → n.tickets.issued ≡ m.tickets.issued
+    → ((s : ℕ) → p s ≡ true → goes_on (mark_of s m.tickets.table) (mark_of s n.tickets.table) ≡ true) → Moves 0 0 0 p m n
 stays q i g = record { issued = omega (arith, i); orders = rw q (omega arith); tickets = λ s l e. g s e }
 
 -- all stays
@@ -52,7 +53,8 @@ then_moves {l = l} {m = m} {n = n} g h = record {
   issued = omega (arith, g.issued, h.issued);
   orders = omega (arith, g.orders, h.orders);
   tickets = λ s i e.
-      goes_further (mark_of s l.tickets.table) (mark_of s m.tickets.table) (mark_of s n.tickets.table) (g.tickets s i refl) (h.tickets s (omega (arith, i, g.issued)) refl);
+      goes_further (mark_of s l.tickets.table) (mark_of s m.tickets.table) (mark_of s n.tickets.table) (g.tickets s i refl)
+      (h.tickets s (omega (arith, i, g.issued)) refl);
 }
 
 settle_moves : (time : ℕ) (o : Outcome) (t : ℕ) (m : MailboxView) → Moves 0 0 0 any m (settle time o t m)
@@ -80,21 +82,25 @@ settle_poll_moves o m = still_moves refl refl
 orders_in-cons : (c : ControlMessage) (cs : List ControlMessage) → orders_in (c ∷ cs) ≡ from_bool (orders c.control) + orders_in cs
 orders_in-cons c cs = grind (arith, sum_by-cons (λ (m : ControlMessage). cond (orders m.control) 1 0) c cs)
 
-next_orders : (graced : Bool) (q : QueuesView) (c : ControlMessage) (q' : QueuesView) → next graced q ≡ Some (c, q') → waiting_orders q' + from_bool (orders c.control) ≡ waiting_orders q
+next_orders : (graced : Bool) (q : QueuesView) (c : ControlMessage) (q' : QueuesView) → next graced q ≡ Some (c, q')
+    → waiting_orders q' + from_bool (orders c.control) ≡ waiting_orders q
 next_orders graced q c q' e = by q.urgent q.high q.normal graced refl refl refl e
   where
-    by : (us hs ns : List ControlMessage) (g : Bool) → q.urgent ≡ us → q.high ≡ hs → q.normal ≡ ns → take_urgent g us q ≡ Some (c, q') → waiting_orders q' + from_bool (orders c.control) ≡ waiting_orders q
+    by : (us hs ns : List ControlMessage) (g : Bool) → q.urgent ≡ us → q.high ≡ hs → q.normal ≡ ns → take_urgent g us q ≡ Some (c, q')
+        → waiting_orders q' + from_bool (orders c.control) ≡ waiting_orders q
     by (u ∷ us) hs ns g a b d e = grind (arith, orders_in-cons u us)
     by [] (h ∷ hs) ns g a b d e = grind (arith, orders_in-cons h hs)
     by [] [] (n ∷ ns) false a b d e = grind (arith, orders_in-cons n ns)
     by [] [] ns g a b d e = absurd (grind (arith, common_steps))
 
 -- a message that is taken leaves the tickets, and the orders but for its own
-pub take_moves : (time : ℕ) (m : MailboxView) (r : Received) (n : MailboxView) → take time m ≡ Some (r, n) → (n.tickets ≡ m.tickets) × (waiting_orders n.queues + from_bool (orders_start r) ≡ waiting_orders m.queues)
+pub take_moves : (time : ℕ) (m : MailboxView) (r : Received) (n : MailboxView) → take time m ≡ Some (r, n)
+    → (n.tickets ≡ m.tickets) × (waiting_orders n.queues + from_bool (orders_start r) ≡ waiting_orders m.queues)
 take_moves time m r n e = grind (arith, common_steps, nat_tests, next_orders)
 
 -- and is carried out
-pub carried_moves : (time : ℕ) (m : MailboxView) (r : Received) (n : MailboxView) (o : Outcome) → take time m ≡ Some (r, n) → Moves 0 0 (from_bool (orders_start r)) any m (settle time o r.message.ticket n)
+pub carried_moves : (time : ℕ) (m : MailboxView) (r : Received) (n : MailboxView) (o : Outcome) → take time m ≡ Some (r, n)
+    → Moves 0 0 (from_bool (orders_start r)) any m (settle time o r.message.ticket n)
 carried_moves time m r n o e =
     let t = take_moves time m r n e in
     let h = settle_moves time o r.message.ticket n in
@@ -115,7 +121,8 @@ admit_moves p c held m =
     record {
       issued = refl;
       orders = omega (arith, enqueued_orders p (message c (m.tickets.issued + 1)) m.queues);
-      tickets = λ s l e. rw (found-put s (m.tickets.issued + 1) (new_mark held) m.tickets.table (grind (arith, nat_tests))) (goes_again (mark_of s m.tickets.table));
+      tickets = λ s l e. rw (found-put s (m.tickets.issued + 1) (new_mark held) m.tickets.table (grind (arith, nat_tests)))
+          (goes_again (mark_of s m.tickets.table));
     }
 
 orders-cons : (c : Control) (cs : List Control) → count_by orders (c ∷ cs) ≡ from_bool (orders c) + count_by orders cs
