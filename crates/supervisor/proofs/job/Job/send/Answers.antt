@@ -2,7 +2,6 @@
 use Rattle.std.proofs.Common.{◌≡◌, ℕ, ◌≤◌, ◌^◌, true, false, [], Ok, Err, Result, ap, arith}
 use Rattle.std.specs.Result.{OnErr}
 use Rattle.std.proofs.Props.{props}
-use Rattle.tickets.specs.declared.ticket.Ticket.{Ticket}
 use Rattle.task.specs.Task.{GrantMeansRunning}
 use Rattle.task.specs.View.{task_view}
 use Rattle.supervisor.specs.declared.errors.Refusal.{Refusal}
@@ -32,7 +31,7 @@ invariant_of-self-clause-in_order c e =
 pub invariant_of-self-clause-full : goal.invariant_of-self-clause-full
 invariant_of-self-clause-full c = (invariant_of-self-clause-in_order c c.if-self.false).full
 
-where_refused : {P : Type 0} (r : Result Ticket Refusal) → P → OnErr r P
+where_refused : {P : Type 0} (r : Result ℕ Refusal) → P → OnErr r P
 where_refused (Ok x) p = tt
 where_refused (Err x) p = p
 
