@@ -1,37 +1,9 @@
-// Runs of calls on the simulated host and the prepared one, as examples.
+// What scripts don't show of runs: the states of a job, the counts of starts and orders, and sheets.
 #![tactic(auto)]
 
 #[cfg(test)]
 mod bench;
 #[cfg(test)]
-mod closing;
+mod jobs;
 #[cfg(test)]
-mod controls;
-#[cfg(test)]
-mod faults;
-#[cfg(test)]
-mod graces;
-#[cfg(test)]
-mod grants;
-#[cfg(test)]
-mod held;
-#[cfg(test)]
-mod laws;
-#[cfg(test)]
-mod pause_steps;
-#[cfg(test)]
-mod paused;
-#[cfg(test)]
-mod pauses;
-#[cfg(test)]
-mod refusals;
-#[cfg(test)]
-mod sends;
-#[cfg(test)]
-mod steps;
-#[cfg(test)]
-mod terminal;
-#[cfg(test)]
-mod tests;
-#[cfg(test)]
-mod tty;
+mod runs;
