@@ -39,7 +39,7 @@ use Rattle.supervisor.proofs.Steps.{way_of}
 use Rattle.drive.specs.declared.calls.Call.TheVariants as Calls
 use Rattle.drive.specs.declared.calls.Done.{Done}
 use Rattle.drive.specs.declared.calls.Value.{Value}
-use Rattle.drive.specs.declared.calls.Value.TheVariants.{Ticket}
+use Rattle.drive.specs.Values.{value_number, ticket_value}
 use Rattle.drive.specs.Calls.{Makes, MakesStep, as_value, send_value}
 use Rattle.drive.specs.Cases.{records, MeetsCases}
 use Rattle.drive.specs.Laws.{job_at}
@@ -62,15 +62,19 @@ waited_look now v room later r n e t =
     let held : mark_of s n.tickets.table ≡ Some Held = ap (λ k. mark_of s k.table) e ∙ found-new s Held v.mailbox.tickets.table room later in
     grind (arith, nat_tests, common_steps, held, t, raise-held s n.tickets.table held)
 
+abbrev number_of : Result Value Refusal → ℕ
+number_of (Ok value) = value_number value
+number_of (Err refusal) = 0
+
 -- a `to_wait`, and the step that takes its control
 waited : {W : Type 0} (did : W → (c : Call) → Reply c → W → Type 0) (now ticket : ℕ) (v m : JobView) (answer : Result Value Refusal) → v.closed ≡ false
     → ((s : ℕ) → v.mailbox.tickets.issued < s → weight is_taken (one_at s) v.mailbox.tickets.table ≡ 0) → v.mailbox.timer ≡ None → v.mailbox.queues.urgent ≡ []
-    → v.mailbox.queues.high ≡ [] → (m, answer) ≡ send_value Sends.ToWait v → answer ≡ Ok (Ticket ticket) → (w w' : W) (p : List Event) (s : StepEnd)
+    → v.mailbox.queues.high ≡ [] → (m, answer) ≡ send_value Sends.ToWait v → answer ≡ Ok (ticket_value ticket) → (w w' : W) (p : List Event) (s : StepEnd)
     → Traces did (control_step now m) w p s w' → look ticket s.view ≡ Ok (not (is_running v.task.state))
 waited did now ticket v m answer free later none urgent high sent ok w w' p s run = whether v.closed free sent
   where
     valued : JobView × Result ℕ Refusal → JobView × Result Value Refusal
-    valued x = (x.0, as_value Ticket x.1)
+    valued x = (x.0, as_value ticket_value x.1)
 
     steps : 1 ≤ free_places v.mailbox.tickets.table → m ≡ Job.with_mailbox (Mail.admit High NextEnding true v.mailbox) v → ticket ≡ v.mailbox.tickets.issued + 1
         → look ticket s.view ≡ Ok (not (is_running v.task.state))
@@ -90,7 +94,7 @@ waited did now ticket v m answer free later none urgent high sent ok w w' p s ru
     sends : (r : Result ⊤ Refusal) → may_send High (NextEnding ∷ []) v.mailbox ≡ r
         → (m, answer) ≡ valued (Job.after_send (Mail.send_if r High (NextEnding ∷ []) v.mailbox) v) → look ticket s.view ≡ Ok (not (is_running v.task.state))
     sends (Err r) l q = absurd (cc (ok, ap (λ x. x.1) q))
-    sends (Ok u) l q = steps (grind (arith, nat_tests, l)) (ap (λ x. x.0) q) (cc (ok, ap (λ x. x.1) q))
+    sends (Ok u) l q = steps (grind (arith, nat_tests, l)) (ap (λ x. x.0) q) (ap number_of (sym ok ∙ ap (λ x. x.1) q))
 
     whether : (closed : Bool) → closed ≡ false → (m, answer) ≡ valued (if closed then (v, Ok 0) else Job.after_send (Mail.send High (NextEnding ∷ []) v.mailbox)
         v) → look ticket s.view ≡ Ok (not (is_running v.task.state))

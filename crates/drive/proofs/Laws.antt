@@ -42,7 +42,7 @@ use Rattle.drive.specs.declared.calls.Call.{Call}
 use Rattle.drive.specs.declared.calls.Call.TheVariants as Calls
 use Rattle.drive.specs.declared.calls.Done.{Done}
 use Rattle.drive.specs.declared.calls.Value.{Value}
-use Rattle.drive.specs.declared.calls.Value.TheVariants.{Ticket}
+use Rattle.drive.specs.Values.{ticket_value}
 use Rattle.drive.specs.declared.calls.Call.TheVariants.{Step}
 use Rattle.drive.specs.Restarts.{KeepsRestartLaws}
 use Rattle.drive.specs.Turns.{Turn, Linked, tried_in, ordered_in}
@@ -86,7 +86,7 @@ send_keeps : (s : Send) (v : JobView) → Keeps (Calls.Send s) v (send_value s v
 send_keeps s v = by v.closed
   where
     valued : JobView × Result ℕ Refusal → JobView × Result Value Refusal
-    valued x = (x.0, as_value Ticket x.1)
+    valued x = (x.0, as_value ticket_value x.1)
 
     admits : (r : Result ⊤ Refusal) → KeepsIf (Calls.Send s) false v (valued (Spec.after_send (Mail.send_if r (priority_of s) (controls_of s) v.mailbox) v))
     admits (Ok u) =

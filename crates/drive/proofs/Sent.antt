@@ -21,7 +21,7 @@ use Rattle.supervisor.specs.Mailbox.{MailboxView, QueuesView, message, enqueue, 
 use Rattle.supervisor.specs.Sends.{priority_of, controls_of}
 use Rattle.supervisor.specs.Sound.{HasNoneLater}
 use Rattle.drive.specs.Follows.{is_raised, Agrees}
-use Rattle.drive.specs.declared.calls.Value.TheVariants.{Ticket}
+use Rattle.drive.specs.Values.{ticket_value}
 use Rattle.drive.specs.Calls.{as_value, with_nothing, known_ticket, send_value, pause_value, collect_value}
 use Rattle.drive.specs.Original as Original
 use Rattle.drive.proofs.Flagged.{MatchesTickets, original_of, same_original, tickets_match, agree}
@@ -90,7 +90,7 @@ pub send_agrees : (s : Send) {v : JobView} {o : Original.Original} → (v.closed
 send_agrees s {v} {o} none a k = rw (same_send s o, same_original a) (by v.closed refl k)
   where
     admits : (r : Result ⊤ Refusal) → may_send (priority_of s) (controls_of s) v.mailbox ≡ r → v.closed ≡ false
-        → is_ok (as_value Ticket (Mail.send_if r (priority_of s) (controls_of s) v.mailbox).1) ≡ true
+        → is_ok (as_value ticket_value (Mail.send_if r (priority_of s) (controls_of s) v.mailbox).1) ≡ true
         → Agrees (Job.after_send (Mail.send_if r (priority_of s) (controls_of s) v.mailbox) v).0
         (Original.send_all (priority_of s) (controls_of s) (original_of v o.raised))
     admits (Ok u) l e k = rw (send_all_same (priority_of s) (controls_of s) v o.raised)
@@ -98,7 +98,7 @@ send_agrees s {v} {o} none a k = rw (same_send s o, same_original a) (by v.close
     admits (Err r) l e k = cc k
 
     by : (closed : Bool) → v.closed ≡ closed
-        → is_ok (as_value Ticket (if closed then (v, Ok 0) else Job.after_send (Mail.send (priority_of s) (controls_of s) v.mailbox) v).1) ≡ true
+        → is_ok (as_value ticket_value (if closed then (v, Ok 0) else Job.after_send (Mail.send (priority_of s) (controls_of s) v.mailbox) v).1) ≡ true
         → Agrees (if closed then (v, Ok 0) else Job.after_send (Mail.send (priority_of s) (controls_of s) v.mailbox) v).0
         (if closed then original_of v o.raised else Original.send_all (priority_of s) (controls_of s) (original_of v o.raised))
     by true e k = agree (tickets_match a)

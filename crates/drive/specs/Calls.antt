@@ -13,7 +13,8 @@ use Rattle.drive.specs.declared.calls.Call.{Call}
 use Rattle.drive.specs.declared.calls.Call.TheVariants.{Step, Pause, Look, Collect}
 use Rattle.drive.specs.declared.calls.Call.TheVariants as Calls
 use Rattle.drive.specs.declared.calls.Value.{Value}
-use Rattle.drive.specs.declared.calls.Value.TheVariants.{Ticket, IsDone, Nothing}
+use Rattle.drive.specs.declared.calls.Value.TheVariants.{IsDone, Nothing}
+use Rattle.drive.specs.Values.{ticket_value}
 use Rattle.supervisor.specs.declared.sends.Send.{Send}
 use Rattle.drive.specs.declared.calls.Done.{Done}
 use Rattle.drive.specs.Answers.{done_without, step_done}
@@ -27,7 +28,7 @@ abbrev pub as_value : {A : Type 0} → (A → Value) → Result A Refusal → Re
 as_value f r = result_map_both f (λ refusal. refusal) r
 
 abbrev pub send_value : Send → JobView → JobView × Result Value Refusal
-send_value s v = let sent = send s v in (sent.0, as_value (λ serial. Ticket (record { serial = serial })) sent.1)
+send_value s v = let sent = send s v in (sent.0, as_value ticket_value sent.1)
 
 -- the look at a ticket, if it is known
 abbrev pub look_value : Result ℕ Refusal → JobView → Result Value Refusal

@@ -18,7 +18,7 @@ use Rattle.supervisor.specs.Laws.{Pends}
 use Rattle.supervisor.specs.Mailbox.{has_room}
 use Rattle.supervisor.specs.Steps.{Moment}
 use Rattle.drive.specs.declared.calls.Call.TheVariants.{Send, Step}
-use Rattle.drive.specs.declared.calls.Value.TheVariants.{Ticket}
+use Rattle.drive.specs.Values.{ticket_value}
 use Rattle.drive.specs.declared.calls.Done.{Done}
 use Rattle.drive.specs.Calls.{Makes}
 use Rattle.drive.specs.Laws.{job_at}
@@ -56,7 +56,7 @@ pub record MeetsCases {H T : Type 0} (by_host : Host.Ghosts H) (by_terminal : Te
   -- `to_wait` waits on Running, and is raised on Pending and on Finished: its ticket after the step that takes it
   pub waits : (ticket now : ℕ) (a : Moment H T) (d : Done) (m : Moment H T) (e : Done) (b : Moment H T) → (job_at a).closed ≡ false
       → (job_at a).mailbox.timer ≡ None → (job_at a).mailbox.queues.urgent ≡ [] → (job_at a).mailbox.queues.high ≡ []
-      → Makes by_host by_terminal (Send Sends.ToWait) a d m → d.answer ≡ Ok (Ticket ticket) → Makes by_host by_terminal (Step Kinds.Control now) m e b
+      → Makes by_host by_terminal (Send Sends.ToWait) a d m → d.answer ≡ Ok (ticket_value ticket) → Makes by_host by_terminal (Step Kinds.Control now) m e b
       → is_ok e.answer ≡ true → look ticket (job_at b) ≡ Ok (not (is_running (job_at a).task.state))
   -- a child that ends within a restart's grace leads to one start
   pub within : (t : Timer) (now : ℕ) (a : Moment H T) (d : Done) (b : Moment H T) → RestartPends t (job_at a) → 1 ≤ count_by reports_end (records d b)

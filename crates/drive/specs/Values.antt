@@ -11,3 +11,7 @@ value_number (Ticket ticket) = ticket.serial
 value_number (Progress progress) = progress_number progress
 value_number (IsDone done) = from_bool done
 value_number Nothing = 0
+
+-- the ticket with this serial
+abbrev pub ticket_value : ℕ → Value
+ticket_value serial = Ticket (record { serial = serial })
