@@ -107,13 +107,13 @@ module _ {H T : Type 0} (by_host : Host.Ghosts H) (by_terminal : Terminal.Ghosts
 
   -- the calls of an accepted step, of which the original makes all but letting go, given the same answers
   pub record MakesSameCalls (am : Amendments) (kind : StepKind) (now : ℕ) (a : Moment H T) (o : Original) (d : Done) (b : Moment H T) (o' : Original) : Type 0
-      where
-    pub calls : List Event
-    pub end : StepEnd
-    pub made : Traces (IsAnswered by_host by_terminal) (tree_of kind (own a) now (job_view a.job)) (world_at a) calls end (world_at b)
-    pub left : end.view ≡ job_view b.job
-    pub recorded : take d.records b.sheet ≡ journal calls
-    pub original : Follows (branch am kind (own a) now o) (heard_calls calls) o'
+    where
+      pub calls : List Event
+      pub end : StepEnd
+      pub made : Traces (IsAnswered by_host by_terminal) (tree_of kind (own a) now (job_view a.job)) (world_at a) calls end (world_at b)
+      pub left : end.view ≡ job_view b.job
+      pub recorded : take d.records b.sheet ≡ journal calls
+      pub original : Follows (branch am kind (own a) now o) (heard_calls calls) o'
 
   -- what the original does where the call was granted; a refused call is no call on it, and no look or collect
   abbrev pub Does : Amendments → Call → Moment H T → Original → Done → Moment H T → Original → Type 0

@@ -122,9 +122,16 @@ ask_hook (Some hook) o = bind (call (to_host (Calls.hook hook o.command_state o.
 
 -- a spawned child runs, and start_pause_watch_if_running: a fresh run is never paused, and is watched if the command asks for it
 abbrev pub after_spawn : Amendments → ℕ → Original → Result ℕ Fault → Original × Result ⊤ Fault
-after_spawn am now o (Ok child) =
-    (record o { command_state = Running child now; paused = None; pause_watch = o.command.options.grant_foreground; pause_rx = if am.drops then []
-        else o.pause_rx }, Ok tt)
+after_spawn am now o (Ok child) = (
+  record o {
+    command_state = Running child now;
+    paused = None;
+    pause_watch = o.command.options.grant_foreground;
+    pause_rx = if am.drops then []
+        else o.pause_rx;
+  },
+  Ok tt,
+)
 after_spawn am now o (Err fault) = (o, Err fault)
 
 -- previous_run = Some(command_state.reset()), the spawn hook, command_state.spawn and the watch, as they stand in five places
@@ -132,7 +139,7 @@ abbrev pub launch : Amendments → ℕ → Original → Interaction (Original ×
 launch am now o =
     let fresh = record o { command_state = Pending; previous_run = Some (reset now o.command_state) } in
     bind (ask_hook fresh.spawn_hook fresh) (λ options. bind (call (to_host (Calls.spawn fresh.command.program options fresh.spawner now)))
-        (λ a. done (after_spawn am now fresh a)))
+    (λ a. done (after_spawn am now fresh a)))
 
 -- try_with_handler!: where what was tried has faulted, the handler is called, the control's flag raised, and the arm left
 abbrev pub try_with_handler : {A : Type 0} → ℕ → Original × Result A Fault → (A → Original → Interaction Original) → Interaction Original

@@ -4,7 +4,6 @@ use Rattle.std.specs.Prelude.{take}
 use Rattle.std.specs.Int.{from_bool}
 use Rattle.std.specs.List.{count_by}
 use Rattle.std.proofs.lemmas.Grind.{common_steps}
-use Rattle.std.proofs.lemmas.List.Sums.{sum_by-cons}
 use Rattle.tickets.specs.declared.flag.Mark.TheVariants.{Held, Raised}
 use Rattle.tickets.specs.Tickets.{mark_of}
 use Rattle.tickets.proofs.Tables.{raise-held, raise-keeps, raise_each-keeps}
@@ -38,7 +37,7 @@ use Rattle.supervisor.specs.Steps.{Moment, job_view, step_end, Steps}
 use Rattle.supervisor.specs.Timers.{timer_message, memory}
 use Rattle.supervisor.proofs.Mailboxes.{InHand, take_in}
 use Rattle.supervisor.proofs.Steps.{way_of}
-use Rattle.supervisor.proofs.Ways.{Way, ControlWay, idle_end}
+use Rattle.supervisor.proofs.Ways.{Way, ControlWay}
 
 -- what is taken while the timer t is pending: its message once it is due, with which the timer is gone; before that another one,
 -- that leaves the timer and the normal queue

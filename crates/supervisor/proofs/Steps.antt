@@ -1,5 +1,5 @@
 -- From the run of a step's tree to its contract.
-use Rattle.std.proofs.Common.{◌≡◌, ℕ, false, length, Ok, ◌∙◌, arith}
+use Rattle.std.proofs.Common.{◌≡◌, ℕ, false, length, Ok, arith}
 use Rattle.std.proofs.lemmas.Grind.{common_steps}
 use Rattle.host.specs.declared.process.Host as Host
 use Rattle.host.specs.declared.terminal.Terminal as Terminal
@@ -12,7 +12,7 @@ use Rattle.supervisor.specs.declared.answers.Stepped.{Stepped}
 use Rattle.supervisor.specs.Job.{JobView, may_step, tree_of}
 use Rattle.supervisor.specs.Steps.{Moment, job_view, world_at, step_end, Steps, StepsOrRefuses}
 use Rattle.supervisor.proofs.Books.{HostKept, TerminalKept, host_goes, terminal_goes}
-use Rattle.supervisor.proofs.Ways.{Way, StepFits, step_fits, way_traced}
+use Rattle.supervisor.proofs.Ways.{Way, step_fits, way_traced}
 
 -- no step of a closed job is accepted
 pub not_closed : (time places : ℕ) (v : JobView) → may_step time places v ≡ Ok tt → v.closed ≡ false

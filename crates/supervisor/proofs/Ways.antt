@@ -5,7 +5,7 @@ use Rattle.std.specs.Int.{from_bool}
 use Rattle.std.proofs.lemmas.Grind.{common_steps}
 use Rattle.host.specs.Calls.{Call, Reply, Event}
 use Rattle.host.specs.Books.{HostBook, TerminalBook}
-use Rattle.host.specs.Interaction.{Interaction, done, Traces}
+use Rattle.host.specs.Interaction.{Traces}
 use Rattle.host.specs.State.{is_running}
 use Rattle.task.specs.Messages.{orders}
 use Rattle.task.specs.declared.task.Outcome.{Outcome}

@@ -1,9 +1,8 @@
 -- The roster, the open grants, and a tally of what was done to the child, as calls and their answers move them.
-use Rattle.std.proofs.Common.{◌≡◌, ℕ, ◌+◌, Bool, true, false, if◌then◌else◌, List, [], ◌∷◌, ◌++◌, refl, ap, ◌∙◌, arith}
+use Rattle.std.proofs.Common.{◌≡◌, ℕ, ◌+◌, Bool, true, false, if◌then◌else◌, List, [], ◌∷◌, ◌++◌, refl, ◌∙◌, arith}
 use Rattle.std.specs.Prelude.{map}
 use Rattle.std.specs.List.{count_by, filter, fold}
 use Rattle.std.proofs.lemmas.Grind.{common_steps}
-use Rattle.std.proofs.lemmas.List.Sums.{sum_by-cons}
 use Rattle.host.specs.declared.journal.CallKind.{CallKind}
 use Rattle.host.specs.declared.journal.Record.{Record}
 use Rattle.host.specs.Calls.{Call, to_host, to_terminal, Reply, Event}

@@ -2,7 +2,6 @@
 use Rattle.std.proofs.Common.{◌≡◌, refl, List}
 use Rattle.std.specs.Int.{from_bool}
 use Rattle.std.specs.List.{fold}
-use Rattle.std.proofs.lemmas.List.Folds.{fold-map}
 use Rattle.host.specs.Calls.{Call, Reply, Event}
 use Rattle.host.specs.Books.{HostBook, TerminalBook, host_along, terminal_along}
 use Rattle.host.specs.Interaction.{Interaction, Traces}

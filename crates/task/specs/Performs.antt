@@ -66,10 +66,10 @@ PerformsChange by_host by_terminal most change s s' = Performs by_host by_termin
 
 -- the call was made and answered a, and the task is as it was
 pub record Asks {H T : Type 0} (by_host : Host.Ghosts H) (by_terminal : Terminal.Ghosts T) (c : Call) (s : Step H T) (a : Reply c) (s' : Step H T) : Type 0
-    where
-  pub recorded : IsRecorded by_host by_terminal (step_world s) c a (step_world s')
-  pub task : s'.task.now ≡ s.task.now
-  pub same : LendsSame s s'
+  where
+    pub recorded : IsRecorded by_host by_terminal (step_world s) c a (step_world s')
+    pub task : s'.task.now ≡ s.task.now
+    pub same : LendsSame s s'
 
 abbrev pub AsksHost : {H T : Type 0} (by_host : Host.Ghosts H) (by_terminal : Terminal.Ghosts T) (c : HostCall) → Step H T → HostReply c → Step H T → Type 0
 AsksHost by_host by_terminal c s a s' = Asks by_host by_terminal (to_host c) s a s'

@@ -2,7 +2,6 @@
 ghost use Rattle.std.specs.Prelude.{◌≡◌};
 ghost use Rattle.task.specs.Messages.{control_at_end, orders};
 
-
 // What a job can be told to do. A grace is in milliseconds; routine, error handler, spawn hook and way of spawning are numbers. The
 // default fills slots of a queue that no message has.
 #[derive(Clone, Copy, Debug, Default, PartialEq, Eq)]

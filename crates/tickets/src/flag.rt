@@ -196,10 +196,7 @@ mod tests {
         assert_eq!(rt; tickets.issue(true), None);
         tickets.vacate(7);
         assert_eq!(rt; tickets.issue(true), Some(257));
-        assert_eq!(rt;
-            tickets.entries[6].map(|entry| entry.ticket),
-            Some(257)
-        );
+        assert_eq!(rt; tickets.entries[6].map(|entry| entry.ticket), Some(257));
     }
 
     #[test]

@@ -6,7 +6,6 @@ use Rattle.host.specs.Interaction.{IsAnswered}
 use Rattle.host.specs.State.{is_running}
 use Rattle.task.specs.Task.{control}
 use Rattle.task.specs.View.{task_view}
-use Rattle.task.proofs.Books.{Books}
 use Rattle.task.proofs.Courses.{Carried, control_fits}
 use Rattle.task.proofs.Traced.{traced, after, fitting, fitting_host, fitting_terminal}
 use Rattle.task.proofs.Sheets.{then_done, silent, on_front}
