@@ -7,4 +7,3 @@ pub mod Trees
 pub mod Plays
 pub mod Printed
 pub mod View
-pub mod Buffer

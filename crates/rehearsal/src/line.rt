@@ -63,8 +63,8 @@ fn send_named(name: &[u8]) -> Option<Send>
     }
 }
 
-// A job refuses all signals over 31 alike, and all graces over a day: so a number that is too large for its type may stand as the
-// type's largest. On a closed job it isn't looked at.
+// A job refuses all signals over 31 alike, and all graces over a day: so a number that is too large
+// for its type may stand as the type's largest. On a closed job it isn't looked at.
 fn signal_of(number: u64) -> u8
     ensures { result ≡ signal_of number }
 {

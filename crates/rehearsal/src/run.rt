@@ -51,7 +51,8 @@ impl Rehearsal {
 
     // Bits of the mask above 31 name no signal.
     fn with(options: u8, mask: u64) -> Result<Rehearsal, Refusal>
-        ensures { result_map_both state_of (λ refusal. refusal) result ≡ result_map_both (opened mask) (λ refusal. refusal) (Spec.make 1 options) }
+        ensures { result_map_both state_of (λ refusal. refusal) result
+            ≡ result_map_both (opened mask) (λ refusal. refusal) (Spec.make 1 options) }
     {
         let job = Job::new(PROGRAM, options)?;
         let host = SimulatedHost::new((mask & 0xffff_ffff) as u32, job.command().options);
@@ -72,7 +73,8 @@ impl Rehearsal {
     }
 
     fn exit(&mut self, child: u64, code: u8) -> Result<u32, Refusal>
-        ensures { answered result self.new ≡ told (state_of self.old) child (Life.Ended (Exited code)) }
+        ensures { answered result self.new
+            ≡ told (state_of self.old) child (Life.Ended (Exited code)) }
     {
         if_living(self.host.exit(known(child)?, code))
     }
@@ -103,7 +105,8 @@ impl Rehearsal {
 
     // Makes the calls of the lines, in order, and gives the text of their answers.
     pub(crate) fn perform(&mut self, heap: Global, lines: &[Line]) -> Result<String, AllocError>
-        ensures { IfOk result (λ text. string_bytes text ≡ text_from 1 lines.now (state_of self.old)) }
+        ensures { IfOk result (λ text.
+            string_bytes text ≡ text_from 1 lines.now (state_of self.old)) }
     {
         let mut text = String::new(heap);
         for (i, line) in lines.iter().enumerate() {

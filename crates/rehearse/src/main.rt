@@ -17,7 +17,8 @@ const MISUSED: u8 = 2;
 
 // What a script prints.
 fn text_of<R: Read + Drop>(heap: Global, script: R) -> io::Result<String>
-    ensures { IfOk result (λ text. IfSome (R.remaining script) (λ bytes. string_bytes text ≡ rehearsed bytes)) }
+    ensures { IfOk result (λ text.
+        IfSome (R.remaining script) (λ bytes. string_bytes text ≡ rehearsed bytes)) }
 {
     let mut bytes = Vec::new(heap);
     script.take(ENOUGH).read_to_end(&mut bytes)?;
