@@ -24,17 +24,20 @@ after_lines read (Ok lines) = Ok (read ++ lines)
 after_lines read (Err fault) = Err fault
 
 -- one line more was read
-pub one_more : (read : List Line) (n : ℕ) (line : Line) (others : Result (List Line) ScriptFault) → after_lines (read ++ line ∷ []) others ≡ after_lines read (with_line n (Some line) others)
+pub one_more : (read : List Line) (n : ℕ) (line : Line) (others : Result (List Line) ScriptFault) →
+    after_lines (read ++ line ∷ []) others ≡ after_lines read (with_line n (Some line) others)
 one_more read n line (Ok lines) = ap Ok (append_assoc read (line ∷ []) lines)
 one_more read n line (Err fault) = refl
 
 -- a text before others is a line
-before_others : (n : ℕ) (text : List ℕ) (texts : List (List ℕ)) → 0 < length texts → lines_from n (text ∷ texts) ≡ with_line n (line_of (n == 1) text) (lines_from (n + 1) texts)
+before_others : (n : ℕ) (text : List ℕ) (texts : List (List ℕ)) → 0 < length texts →
+    lines_from n (text ∷ texts) ≡ with_line n (line_of (n == 1) text) (lines_from (n + 1) texts)
 before_others n text [] some = absurd (omega arith)
 before_others n text (next ∷ texts) some = refl
 
 -- a text up to its first line feed is the first line, which says o
-pub first_line : (n : ℕ) (s text behind : List ℕ) (o : Option Line) → Some (text, behind) ≡ parted 10 s → o ≡ line_of (n == 1) text → said n s ≡ with_line n o (said (n + 1) behind)
+pub first_line : (n : ℕ) (s text behind : List ℕ) (o : Option Line) → Some (text, behind) ≡ parted 10 s → o ≡ line_of (n == 1) text →
+    said n s ≡ with_line n o (said (n + 1) behind)
 first_line n s text behind o e says =
     rw (split_first 10 s text behind e, says) (before_others n text (slice_split is_feed behind) (omega (arith, length-slice_split is_feed behind)))
 

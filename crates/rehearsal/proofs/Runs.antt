@@ -38,12 +38,14 @@ abbrev DidAnswer : World SimulatedHost AbsentTerminal → (c : Call) → Reply c
 DidAnswer = Answered by_simulated by_absent
 
 -- a call is answered as the rules say, and leaves what they say
-by_rules : (w w' : World SimulatedHost AbsentTerminal) (c : Call) (a : Reply c) → DidAnswer w c a w' → (a ≡ reply (outside_of w) c) × (outside_of w' ≡ after (outside_of w) c)
+by_rules : (w w' : World SimulatedHost AbsentTerminal) (c : Call) (a : Reply c) → DidAnswer w c a w' →
+    (a ≡ reply (outside_of w) c) × (outside_of w' ≡ after (outside_of w) c)
 by_rules w w' (to_host c) a did = (did.0.0, rw (did.0.1, did.1) refl)
 by_rules w w' (to_terminal c) a did = (did.0.0, rw (did.0.1, did.1) refl)
 
 -- a trace of a tree is the run of it
-run-traced : {A : Type 0} (t : Interaction A) (w w' : World SimulatedHost AbsentTerminal) (p : List Event) (x : A) → Traces DidAnswer t w p x w' → run t (outside_of w) ≡ record { value = x; trace = p; outside = outside_of w' }
+run-traced : {A : Type 0} (t : Interaction A) (w w' : World SimulatedHost AbsentTerminal) (p : List Event) (x : A) → Traces DidAnswer t w p x w' →
+    run t (outside_of w) ≡ record { value = x; trace = p; outside = outside_of w' }
 run-traced (done y) w w' p x h = rw (h.0, h.1, h.2) refl
 run-traced (ask c k) w w' p x h =
     let rules = by_rules w h.1 c h.0 h.4 in
@@ -56,17 +58,22 @@ abbrev rehearsal_at : Moment SimulatedHost AbsentTerminal → Rehearsal
 rehearsal_at m = record { job = m.job; host = m.host; terminal = m.terminal; sheet = m.sheet }
 
 module _ (a b : Moment SimulatedHost AbsentTerminal) where
-  quietly : (f : JobView → JobView × Result ℕ Refusal) (d : Done) → Quiet by_simulated by_absent f a d b → played d (rehearsal_at b) ≡ quiet (state_of (rehearsal_at a)) (f (job_view a.job))
+  quietly : (f : JobView → JobView × Result ℕ Refusal) (d : Done) → Quiet by_simulated by_absent f a d b →
+      played d (rehearsal_at b) ≡ quiet (state_of (rehearsal_at a)) (f (job_view a.job))
   quietly f d q = rw (← q.answers.answer, q.host, q.terminal, q.does) refl
 
-  step_made : (tree : ℕ → JobView → Interaction Stepping) (time : ℕ) (r : Result Stepped Refusal) → length a.sheet ≡ 8 → Steps by_simulated by_absent tree time a r b → played (step_done r b.sheet) (rehearsal_at b) ≡ stepped (state_of (rehearsal_at a)) (tree time (job_view a.job)) (may_step time 8 (job_view a.job))
+  step_made : (tree : ℕ → JobView → Interaction Stepping) (time : ℕ) (r : Result Stepped Refusal) →
+      length a.sheet ≡ 8 → Steps by_simulated by_absent tree time a r b →
+      played (step_done r b.sheet) (rehearsal_at b)
+      ≡ stepped (state_of (rehearsal_at a)) (tree time (job_view a.job)) (may_step time 8 (job_view a.job))
   step_made tree time (Err refusal) places h = rw (rw places at h.0, h.1) refl
   step_made tree time (Ok s) places h =
       let made = h.1.conducts in
       rw (rw places at h.0, run-traced (tree time (job_view a.job)) (world_at a) (world_at b) made.trace (stepping b.job s) made.traces, records_are made) refl
 
   -- a call that was made with a sheet of 8 places
-  pub call_made : (c : Calls.Call) (d : Done) → length a.sheet ≡ 8 → Makes by_simulated by_absent c a d b → played d (rehearsal_at b) ≡ call (state_of (rehearsal_at a)) c
+  pub call_made : (c : Calls.Call) (d : Done) → length a.sheet ≡ 8 → Makes by_simulated by_absent c a d b →
+      played d (rehearsal_at b) ≡ call (state_of (rehearsal_at a)) c
   call_made (Send s) d places h = quietly (send s) d h
   call_made (Step kind time) d places h = rw h.does (step_made (tree_of kind 1) time h.answer places h.step)
   call_made (Pause signal) d places h = quietly (paused signal) d h

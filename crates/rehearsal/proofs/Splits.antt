@@ -18,4 +18,5 @@ module _ (mark : ℕ) where
 
   -- a text without the mark is the only part
   pub split_none : (s : List ℕ) → None ≡ parted mark s → slice_split is_mark s ≡ s ∷ []
-  split_none s e = slice_split_none is_mark s (All-from_get_or (λ b. is_mark b ≡ false) s 0 (λ i l. fails_before_first is_mark s i 0 (grind (arith, nat_tests))))
+  split_none s e =
+      slice_split_none is_mark s (All-from_get_or (λ b. is_mark b ≡ false) s 0 (λ i l. fails_before_first is_mark s i 0 (grind (arith, nat_tests))))

@@ -63,7 +63,8 @@ with_signal name signal = if bytes_eq name (codes "signal") then Some (Sends.The
 abbrev pub send_of : List TokenView → Option Send
 send_of (word name ∷ []) = send_named name
 send_of (word name ∷ number signal ∷ []) = option_and_then (λ s. with_signal name (signal_of s)) (value_of signal)
-send_of (word name ∷ number signal ∷ number grace ∷ []) = option_and_then (λ p. with_grace name (signal_of p.0) (grace_of p.1)) (option_zip (value_of signal) (value_of grace))
+send_of (word name ∷ number signal ∷ number grace ∷ []) =
+    option_and_then (λ p. with_grace name (signal_of p.0) (grace_of p.1)) (option_zip (value_of signal) (value_of grace))
 send_of tokens = None
 
 -- a letter and what stands behind its tab

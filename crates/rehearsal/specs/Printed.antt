@@ -20,17 +20,18 @@ fault_number (ScriptFaults.TheVariants.Line number) = number
 
 -- the refusal of a faulty line, which is 13, and its number
 abbrev pub fault_text : ScriptFault → List ℕ
-fault_text fault = decimal 13 ++ (9 ∷ (decimal (fault_number fault) ++ (10 ∷ [])))
+fault_text fault = decimal 13 ++ 9 ∷ decimal (fault_number fault) ++ 10 ∷ []
 
 -- the number of a line, its letter, refusal and value
 abbrev pub answer_text : ℕ → ℕ → ℕ → ℕ → List ℕ
 answer_text number letter refusal value =
-    decimal number ++ (9 ∷ (encode_utf8 letter ++ (9 ∷ (decimal refusal ++ (9 ∷ (decimal value ++ (10 ∷ [])))))))
+    decimal number ++ 9 ∷ encode_utf8 letter ++ 9 ∷ decimal refusal ++ 9 ∷ decimal value ++ 10 ∷ []
 
 -- the letter j, and call, child, number and answer of a record
 abbrev pub record_text : Record → List ℕ
 record_text r =
-    106 ∷ 9 ∷ (decimal (call_number r.call) ++ (9 ∷ (decimal r.child ++ (9 ∷ (decimal r.number ++ (9 ∷ (signed_decimal (answer_number r.answer) ++ (10 ∷ []))))))))
+    106 ∷ [] ++ 9 ∷ decimal (call_number r.call) ++ 9 ∷ decimal r.child ++ 9 ∷ decimal r.number
+    ++ 9 ∷ signed_decimal (answer_number r.answer) ++ 10 ∷ []
 
 -- the answer of a line: a refused one has the value 0
 abbrev pub answered_text : ℕ → ℕ → Result ℕ Refusal → List ℕ

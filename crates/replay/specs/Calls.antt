@@ -35,9 +35,14 @@ Calls call old done new = Makes by_prepared by_simulated call (moment old) done 
 -- A line: behind a call only groups may join the session, and what is set of the terminal leaves the job, its host and the sheet.
 -- Where there is no place for a group, nothing is answered.
 abbrev pub Plays : Line → Run → Option Done → Run → Type 0
-Plays (Lines.TheVariants.Call call) old answer new = (done : Done) × (called : Run) × (answer ≡ Some done) × Calls call old done called × OnlyGroups called.session new.session × (new ≡ record called { session = new.session })
-Plays (Lines.TheVariants.Terminal setting) old answer new = ((answer ≡ None) ⊎ (answer ≡ Some (only_answered (Ok 0)))) × (new ≡ record old { session = new.session })
+Plays (Lines.TheVariants.Call call) old answer new =
+    (done : Done) × (called : Run) × (answer ≡ Some done) × Calls call old done called
+    × OnlyGroups called.session new.session × (new ≡ record called { session = new.session })
+Plays (Lines.TheVariants.Terminal setting) old answer new =
+    ((answer ≡ None) ⊎ (answer ≡ Some (only_answered (Ok 0)))) × (new ≡ record old { session = new.session })
 
 -- what is printed of a line is its first character, what its call answered, and the records that it wrote
 abbrev pub Adds : ℕ → List ℕ → Run → List ℕ → Run → List ℕ → Type 0
-Adds number read old before new text = (line : Line) × (done : Done) × (letter : ℕ) × (slice_get (chars read) 0 ≡ Some letter) × Plays line old (Some done) new × (text ≡ before ++ line_text number letter done.answer (take done.records new.sheet))
+Adds number read old before new text =
+    (line : Line) × (done : Done) × (letter : ℕ) × (slice_get (chars read) 0 ≡ Some letter) × Plays line old (Some done) new
+    × (text ≡ before ++ line_text number letter done.answer (take done.records new.sheet))

@@ -21,8 +21,8 @@ fn call(text: &str) -> Option<Call> {
     }
 }
 
-// A line behind the first two: a call on the job, or a setting of its terminal. A line `k` sends any
-// control.
+// A line behind the first two: a call on the job, or a setting of its terminal. A line `k` sends
+// any control.
 pub(crate) fn read_line(text: &str) -> Option<Line> {
     match text.split_once('\t')? {
         ("t", fields) => read_setting(fields).map(Line::Terminal),

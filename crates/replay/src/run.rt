@@ -73,8 +73,8 @@ impl Run {
     // Adds what the line of this number answers, in the form of a rehearsal; a line's letter is its
     // first field.
     fn add(&mut self, text: &mut String, number: usize, read: &str) -> Result<(), ScriptError>
-        ensures { OnOk result
-            (Adds number read.now self.old (string_bytes text.old) self.new (string_bytes text.new)) }
+        ensures { OnOk result (Adds number read.now
+            self.old (string_bytes text.old) self.new (string_bytes text.new)) }
     {
         let said = read_line(read).ok_or(ScriptError::Line(number))?;
         let done = self.play(said).ok_or(ScriptError::Line(number))?;
