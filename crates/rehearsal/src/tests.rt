@@ -27,10 +27,19 @@ fn the_longest_line_fits_with_its_records(rt: HostRuntime) -> Result<(), Fail> {
         answer: Answer::Child(u32::MAX),
     };
     let mut text = String::new(rt.alloc());
-    write_line(&mut text, usize::MAX, '\u{10ffff}', done, &[record; LEAST_PLACES])?;
+    write_line(
+        &mut text,
+        usize::MAX,
+        '\u{10ffff}',
+        done,
+        &[record; LEAST_PLACES],
+    )?;
     assert_eq!(&rt; text.len(), 39 + 8 * 38);
     let mut lines = text.as_str().lines();
-    assert_eq!(&rt; lines.next(), Some("18446744073709551615\t\u{10ffff}\t0\t4294967295"));
+    assert_eq!(&rt;
+        lines.next(),
+        Some("18446744073709551615\t\u{10ffff}\t0\t4294967295")
+    );
     for line in lines {
         assert_eq!(&rt; line, "j\t13\t4294967295\t4294967295\t4294967295");
     }
