@@ -1,5 +1,4 @@
 -- The definitions that the contracts cite.
-pub mod Parts
 pub mod Tokens
 pub mod Lines
 pub mod Script

@@ -6,7 +6,6 @@ use Rattle.std.specs.Option.{option_and_then, option_map_or, option_zip}
 use Rattle.rehearsal.specs.declared.token.Token.{Token}
 use Rattle.rehearsal.specs.declared.token.Tokens.{Tokens}
 use Rattle.rehearsal.specs.declared.token.Token.TheVariants.{Word, Number}
-use Rattle.rehearsal.specs.Parts.{parted}
 
 -- TOKENS
 
@@ -63,6 +62,10 @@ number_in (number digits) = value_of digits
 abbrev pub number_of : List ℕ → Option ℕ
 number_of field = number_in (token_of field)
 
--- the numbers of two fields with a tab between them
+-- the numbers that two tokens write
+abbrev pub two_numbers : List TokenView → Option (ℕ × ℕ)
+two_numbers (number a ∷ number b ∷ []) = option_zip (value_of a) (value_of b)
+two_numbers tokens = None
+
 abbrev pub numbers_of : List ℕ → Option (ℕ × ℕ)
-numbers_of fields = option_and_then (λ p. option_zip (number_of p.0) (number_of p.1)) (parted 9 fields)
+numbers_of fields = two_numbers (tokens_of fields)

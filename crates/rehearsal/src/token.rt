@@ -57,7 +57,6 @@ impl<'a> Tokens<'a> {
         Tokens { rest: Some(fields) }
     }
 
-    #[tactic(auto, using(crate::proofs::Fields::tokens_first, crate::proofs::Fields::tokens_only))]
     pub(crate) fn take(&mut self) -> Option<Token<'a>>
         ensures { Takes (left self.old) result (left self.new) }
     {
@@ -102,6 +101,11 @@ pub(crate) fn number(field: &[u8]) -> Option<u64>
 pub(crate) fn two_numbers(fields: &[u8]) -> Option<(u64, u64)>
     ensures { result ≡ numbers_of fields.now }
 {
-    let (first, second) = cut(fields, b'\t')?;
-    Some((number(first)?, number(second)?))
+    let mut tokens = Tokens::of(fields);
+    match (tokens.take(), tokens.take(), tokens.take()) {
+        (Some(Token::Number(first)), Some(Token::Number(second)), None) => {
+            Some((value(first)?, value(second)?))
+        }
+        _ => None,
+    }
 }
