@@ -7,11 +7,12 @@ use crate::tty::{
     CHILD, CONT, GRANT, NEXT, OTHER, OWN, Place, RELEASE, Standing, USUAL, check_terminal, started,
 };
 use foreground::absent::AbsentTerminal;
+use foreground::disposition::Handling;
 use foreground::group::Group;
-use foreground::process::Handling;
 use foreground::simulated::SimulatedTerminal;
 use host::command::SpawnOptions;
 use host::state::{CommandState, ProcessEnd};
+use host::terminal::Terminal;
 use hosts::simulated::SimulatedHost;
 use std::process::Abort;
 use std::test::Fail;
@@ -286,7 +287,8 @@ fn a_grant_of_another(rt: HostRuntime) -> Result<(), Fail> {
     let same = running(100, 10);
     let busy = [[11, 0, 0, 7], [12, 0, 100, -16]];
     let mut bench = started(&rt, 9, USUAL, &[100], &[0, 0, 0, 2009])?;
-    bench.terminal.set_saved(Some(3));
+    assert_eq!(rt; bench.terminal.acquire(NEXT.number), Ok(()));
+    bench.terminal.set_foreground(Some(OWN));
     bench.check_all(
         &rt,
         &[

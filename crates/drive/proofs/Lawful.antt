@@ -1,63 +1,120 @@
--- From one moment of a run to the next: books that fit the job fit it again, and no start is tried that was not ordered.
-use Rattle.std.proofs.Common.{◌≡◌, ℕ, ◌+◌, ◌≤◌, Bool, true, false, Ok, Err, Result, List, [], ◌∷◌, if◌then◌else◌, length, refl, sym, ap, subst, ◌∙◌, arith}
-use Rattle.std.specs.Prelude.{⊤}
-use Rattle.std.specs.Int.{from_bool}
+-- From one moment of a run to the next: each call is fair, books that fit the job fit it again, and no start is tried that was not ordered.
+use Rattle.std.proofs.Common.{◌≡◌, ℕ, Bool, true, false, Some, None, Ok, Err, Result, length, refl, sym, ap, subst, arith, ◌+◌, ◌≤◌, is_ok, List, [], ◌∷◌, if◌then◌else◌, ◌∙◌}
+use Rattle.std.proofs.lemmas.Bool.Decides.{nat_tests}
 use Rattle.std.proofs.lemmas.Grind.{common_steps}
+use Rattle.std.specs.Int.{from_bool}
+use Rattle.std.specs.List.{count_by}
+use Rattle.std.specs.Prelude.{◌==◌, not, if◌then◌else◌, ⊤, OnErr}
+use Rattle.host.proofs.Spawns.{journal-spawns}
+use Rattle.host.specs.Books.{HostBook, TerminalBook}
+use Rattle.host.specs.Interaction.{IsAnswered}
 use Rattle.host.specs.declared.process.Host as Host
 use Rattle.host.specs.declared.terminal.Terminal as Terminal
-use Rattle.host.specs.Interaction.{Answered}
-use Rattle.task.specs.declared.messages.Control.{Control}
-use Rattle.task.proofs.Traced.{after, fitting_host, fitting_terminal, fitting}
+use Rattle.tickets.proofs.Tables.{goes_again}
+use Rattle.tickets.specs.Tickets.{mark_of}
+use Rattle.task.proofs.Books.{Books}
+use Rattle.task.proofs.Traced.{Fitting, after, fitting_host, fitting_terminal, fitting}
+use Rattle.task.specs.Messages.{orders}
+use Rattle.task.specs.declared.messages.Control as Message
+use Rattle.supervisor.proofs.Graces.{control_accepted}
+use Rattle.supervisor.proofs.Steps.{way_of, not_closed}
+use Rattle.supervisor.proofs.Ways.{Way, StepFits, step_fits, way_traced}
+use Rattle.supervisor.specs.Job.{JobView, StepEnd, send, look, collect, control_end, carry_out, poll_end, pause_end, tree_of, children_of, runs, may_step}
+use Rattle.supervisor.specs.Job as Spec
+use Rattle.supervisor.specs.Laws.{TakesWhenDue}
+use Rattle.supervisor.specs.Mailbox as Mail
+use Rattle.supervisor.specs.Mailbox.{TakeResult, take, may_send, MailboxView, admit_all, admit}
+use Rattle.supervisor.specs.Sends.{priority_of, controls_of}
+use Rattle.supervisor.specs.Steps.{Moment, moment, job_view, step_end, StepsOrRefuses, Steps}
+use Rattle.supervisor.specs.Timers.{owed_starts}
 use Rattle.supervisor.specs.declared.answers.StepKind.{StepKind}
+use Rattle.supervisor.specs.declared.answers.StepKind.TheVariants.{Control, Child, Pause}
 use Rattle.supervisor.specs.declared.answers.Stepped.{Stepped}
 use Rattle.supervisor.specs.declared.errors.Refusal.{Refusal}
+use Rattle.supervisor.specs.declared.job.Job.{Job}
 use Rattle.supervisor.specs.declared.queues.Priority.{Priority}
 use Rattle.supervisor.specs.declared.sends.Send.{Send}
-use Rattle.supervisor.specs.Job as Spec
-use Rattle.supervisor.specs.declared.job.Job.{Job}
-use Rattle.supervisor.specs.Job.{JobView, send, children_of, runs, tree_of, may_step}
-use Rattle.supervisor.specs.Mailbox as Mail
-use Rattle.supervisor.specs.Mailbox.{MailboxView, admitted_all, admitted, may_send}
-use Rattle.supervisor.specs.Sends.{priority_of, controls_of}
-use Rattle.supervisor.specs.Steps.{Moment, job_view, world_at, stepping, Steps}
-use Rattle.supervisor.specs.Timers.{owed}
-use Rattle.supervisor.proofs.Fits.{StepFits, step_traced}
-use Rattle.supervisor.proofs.Steps.{not_closed}
+use Rattle.drive.specs.Answers.{done_without, step_done}
+use Rattle.drive.specs.Calls.{Makes, AnswersAlone, known_ticket, as_value, send_value, pause_value, look_value, collect_value}
+use Rattle.drive.specs.Laws.{accepted_controls, collects, IsFair, BooksFit}
 use Rattle.drive.specs.declared.calls.Call.{Call}
 use Rattle.drive.specs.declared.calls.Call.TheVariants as Calls
 use Rattle.drive.specs.declared.calls.Done.{Done}
-use Rattle.drive.specs.Answers.{step_done}
-use Rattle.drive.specs.Calls.{Makes, Quiet, known, paused, collected}
-use Rattle.drive.specs.Laws.{BooksFit}
-use Rattle.drive.proofs.Steps.{tried-spawns}
+use Rattle.drive.specs.declared.calls.Value.{Value}
+use Rattle.drive.specs.declared.calls.Value.TheVariants.{Ticket}
+use Rattle.drive.proofs.Mailboxes.{Moves, any, still_moves, carried_moves, settle_poll_moves, admit_all_moves, vacate_moves}
+use Rattle.drive.proofs.Steps.{CountsSpawns, step_cases, makes-spawns, accepted, tried-spawns}
+
+-- STEPS
+
+-- what a step that ends so makes of the mailbox of the job v
+abbrev Ends : JobView → StepEnd → Type 0
+Ends v s = Moves 0 0 (from_bool s.ordered) any v.mailbox s.view.mailbox
+
+step_moves : (kind : StepKind) (time : ℕ) (v : JobView) (b : Books) (s : StepEnd) → Way time v kind b s → Ends v s
+step_moves Control time v b s (None, e, w) = rw w.1 (still_moves refl refl)
+step_moves Control time v b s (Some (r, n), e, w) = rw w.2 (carried_moves time v.mailbox r n w.0.1 e)
+step_moves Child time v b s w = rw w.2 (settle_poll_moves w.0.1 v.mailbox)
+step_moves Pause time v b s w = rw w.2 (still_moves refl refl)
+
+-- CALLS THAT ASK NOTHING OUTSIDE
 
 -- what the laws ask of a job is as it was
 record Same (v w : JobView) : Type 0 where
   children : children_of w ≡ children_of v
   grant : w.task.foreground.grant ≡ v.task.foreground.grant
-  owed : owed w.mailbox.timer ≡ owed v.mailbox.timer
+  owed : owed_starts w.mailbox.timer ≡ owed_starts v.mailbox.timer
 
-admitted_timer : (p : Priority) (cs : List Control) (m : MailboxView) → (admitted_all p cs m).timer ≡ m.timer
+admitted_timer : (p : Priority) (cs : List Message.Control) (m : MailboxView) → (admit_all p cs m).timer ≡ m.timer
 admitted_timer p [] m = refl
 admitted_timer p (c ∷ []) m = refl
-admitted_timer p (c ∷ d ∷ cs) m = admitted_timer p (d ∷ cs) (admitted p c false m)
+admitted_timer p (c ∷ d ∷ cs) m = admitted_timer p (d ∷ cs) (admit p c false m)
 
-send_same : (s : Send) (v : JobView) → Same v (send s v).0
-send_same s v = by v.closed
+-- what such a call makes of the job v, by what it answers
+abbrev KeepsIf : Call → Bool → JobView → JobView × Result Value Refusal → Type 0
+KeepsIf c closed v x = Moves (length (accepted_controls c closed x.1)) (count_by orders (accepted_controls c closed x.1)) 0 (λ s. not (collects c s)) v.mailbox x.0.mailbox × Same v x.0
+
+abbrev Keeps : Call → JobView → JobView × Result Value Refusal → Type 0
+Keeps c v x = KeepsIf c v.closed v x
+
+send_keeps : (s : Send) (v : JobView) → Keeps (Calls.Send s) v (send_value s v)
+send_keeps s v = by v.closed
   where
-    admits : (r : Result ⊤ Refusal) → Same v (Spec.sent (Mail.sent r (priority_of s) (controls_of s) v.mailbox) v).0
-    admits (Ok u) = record { children = refl; grant = refl; owed = ap owed (admitted_timer (priority_of s) (controls_of s) v.mailbox) }
-    admits (Err r) = record { children = refl; grant = refl; owed = refl }
+    valued : JobView × Result ℕ Refusal → JobView × Result Value Refusal
+    valued x = (x.0, as_value Ticket x.1)
 
-    by : (closed : Bool) → Same v (if closed then (v, Ok 0) else Spec.sent (Mail.send (priority_of s) (controls_of s) v.mailbox) v).0
-    by true = record { children = refl; grant = refl; owed = refl }
+    admits : (r : Result ⊤ Refusal) → KeepsIf (Calls.Send s) false v (valued (Spec.after_send (Mail.send_if r (priority_of s) (controls_of s) v.mailbox) v))
+    admits (Ok u) =
+        let timer = admitted_timer (priority_of s) (controls_of s) v.mailbox in
+        (admit_all_moves (priority_of s) (controls_of s) v.mailbox, record { children = refl; grant = refl; owed = ap owed_starts timer })
+    admits (Err r) = (still_moves refl refl, record { children = refl; grant = refl; owed = refl })
+
+    by : (closed : Bool) → KeepsIf (Calls.Send s) closed v (valued (if closed then (v, Ok 0) else Spec.after_send (Mail.send (priority_of s) (controls_of s) v.mailbox) v))
+    by true = (still_moves refl refl, record { children = refl; grant = refl; owed = refl })
     by false = admits (may_send (priority_of s) (controls_of s) v.mailbox)
 
-pause_same : (signal : ℕ) (v : JobView) → Same v (paused signal v).0
-pause_same signal v = grind (arith, common_steps)
+pause_keeps : (signal : ℕ) (v : JobView) → Keeps (Calls.Pause signal) v (pause_value signal v)
+pause_keeps signal v = (still_moves (grind (arith, common_steps)) (grind (arith, common_steps)), grind (arith, common_steps))
 
-collect_same : (ticket : ℕ) (v : JobView) → Same v (collected (known ticket) v).0
-collect_same ticket v = grind (arith, common_steps)
+collect_keeps : (ticket : ℕ) (v : JobView) → Keeps (Calls.Collect ticket) v (collect_value (known_ticket ticket) v)
+collect_keeps ticket v = (by (known_ticket ticket) refl, grind (arith, common_steps))
+  where
+    given : (x : Result Bool Refusal) → Moves 0 0 0 (λ s. not (ticket == s)) v.mailbox (Spec.collect_if x ticket v).0.mailbox
+    given (Ok true) = vacate_moves ticket v.mailbox
+    given (Ok false) = still_moves refl refl
+    given (Err r) = still_moves refl refl
+
+    unless : (zero : Bool) → Moves 0 0 0 (λ s. not (ticket == s)) v.mailbox (if zero then (v, Ok tt) else Spec.collect_if (Spec.is_done v.closed (mark_of ticket v.mailbox.tickets.table)) ticket v).0.mailbox
+    unless true = still_moves refl refl
+    unless false = given (Spec.is_done v.closed (mark_of ticket v.mailbox.tickets.table))
+
+    by : (k : Result ℕ Refusal) → known_ticket ticket ≡ k → Moves 0 0 0 (λ s. not (ticket == s)) v.mailbox (collect_value k v).0.mailbox
+    by (Ok t) e =
+        let same : t ≡ ticket = grind (arith, nat_tests, e) in
+        rw same (unless (ticket == 0))
+    by (Err r) e = still_moves refl refl
+
+-- ALL CALLS
 
 -- a job that holds a grant runs a child
 pub holds : (j : Job) → (job_view j).task.foreground.grant ≡ true → runs (job_view j) ≡ true
@@ -68,46 +125,92 @@ holds j g = by j.closed refl
     by true e = absurd (grind (arith, j.yielded e, g))
 
 module _ {H T : Type 0} (by_host : Host.Ghosts H) (by_terminal : Terminal.Ghosts T) where
-  -- from the moment a to the moment b, by what was done
-  pub record Goes (a : Moment H T) (d : Done) (b : Moment H T) : Type 0 where
+  -- the call c goes from the moment a to the moment b, and does d
+  pub record Goes (c : Call) (a : Moment H T) (d : Done) (b : Moment H T) : Type 0 where
+    pub fair : IsFair by_host by_terminal c a d b
     pub books : BooksFit by_host by_terminal a → BooksFit by_host by_terminal b
-    pub starts : owed (job_view b.job).mailbox.timer + d.tally.tried ≤ owed (job_view a.job).mailbox.timer + d.tally.ordered
+    pub starts : owed_starts (job_view b.job).mailbox.timer + d.tally.tried ≤ owed_starts (job_view a.job).mailbox.timer + d.tally.ordered
 
-  quiet_goes : (f : JobView → JobView × Result ℕ Refusal) → ((v : JobView) → Same v (f v).0) → (a : Moment H T) (d : Done) (b : Moment H T) → Quiet by_host by_terminal f a d b → Goes a d b
-  quiet_goes f k a d b q =
-      let same : Same (job_view a.job) (job_view b.job) = subst (λ (w : JobView). Same (job_view a.job) w) (sym (ap (λ x. x.0) q.answers.answer)) (k (job_view a.job)) in
+  -- nothing was done
+  still_goes : (c : Call) (a : Moment H T) (r : Result Value Refusal) → accepted_controls c (job_view a.job).closed r ≡ [] → Goes c a (done_without r) a
+  still_goes c a r e =
+      let tickets = λ (s : ℕ). goes_again (mark_of s (job_view a.job).mailbox.tickets.table) in
       record {
-        books = λ h. record { roster = ap (λ x. (by_host.book x).roster) q.host ∙ h.roster ∙ sym same.children; grants = ap (λ x. (by_terminal.book x).grants) q.terminal ∙ h.grants ∙ ap from_bool (sym same.grant); holder = holds b.job };
+        fair = record { issued = rw e (omega arith); taken = rw e (omega arith); spawned = grind arith; tickets = λ s l _. tickets s; refused = same r };
+        books = λ f. f;
+        starts = omega arith;
+      }
+    where
+      same : (r : Result Value Refusal) → OnErr r (a ≡ a)
+      same (Ok x) = tt
+      same (Err x) = refl
+
+  unchanged : (a b : Moment H T) (r : Result Value Refusal) → OnErr r (b.job ≡ a.job) → b.host ≡ a.host → b.terminal ≡ a.terminal → b.sheet ≡ a.sheet → OnErr r (b ≡ a)
+  unchanged a b (Ok x) e h t s = tt
+  unchanged a b (Err x) e h t s =
+      let same : moment b.job b.host b.terminal b.sheet ≡ a = rw (e, h, t, s) refl in
+      same
+
+  quiet_goes : (c : Call) (f : JobView → JobView × Result Value Refusal) → ((v : JobView) → Keeps c v (f v)) → (a : Moment H T) (d : Done) (b : Moment H T) → AnswersAlone by_host by_terminal f a d b → Makes by_host by_terminal c a d b → Goes c a d b
+  quiet_goes c f k a d b q made =
+      let keeps : Keeps c (job_view a.job) (job_view b.job, d.answer) = subst (λ (x : JobView × Result Value Refusal). Keeps c (job_view a.job) x) (sym q.answers.answer) (k (job_view a.job)) in
+      let moves = keeps.0 in
+      let same = keeps.1 in
+      record {
+        fair = record {
+          issued = moves.issued;
+          taken = omega (arith, moves.orders, ap (λ (x : Done). x.tally.ordered) q.does);
+          spawned = makes-spawns by_host by_terminal a c d b made;
+          tickets = λ s l e. moves.tickets s l (rw e refl);
+          refused = unchanged a b d.answer q.answers.unchanged q.host q.terminal q.sheet;
+        };
+        books = λ h. record {
+          roster = ap (λ x. (by_host.book x).roster) q.host ∙ h.roster ∙ sym same.children;
+          grants = ap (λ x. (by_terminal.book x).grants) q.terminal ∙ h.grants ∙ ap from_bool (sym same.grant);
+          holder = holds b.job;
+        };
         starts = omega (arith, same.owed, ap (λ (x : Done). x.tally.tried) q.does, ap (λ (x : Done). x.tally.ordered) q.does);
       }
 
-  step_goes : (kind : StepKind) (time : ℕ) (a : Moment H T) (d : Done) (b : Moment H T) → Makes by_host by_terminal (Calls.Step kind time) a d b → Goes a d b
-  step_goes kind time a d b made = by made.answer made.step made.does
+  step_goes : (kind : StepKind) (time : ℕ) (a : Moment H T) (d : Done) (b : Moment H T) → Makes by_host by_terminal (Calls.Step kind time) a d b → Goes (Calls.Step kind time) a d b
+  step_goes kind time a d b made =
+      step_cases (λ d b. CountsSpawns by_host a d b → Goes (Calls.Step kind time) a d b) (λ r may f. still_goes (Calls.Step kind time) a (Err r) refl) by made
+      (makes-spawns by_host by_terminal a (Calls.Step kind time) d b made)
     where
-      own : ℕ
-      own = (by_terminal.book a.terminal).own
-
       v : JobView
       v = job_view a.job
 
-      by : (r : Result Stepped Refusal) → Steps by_host by_terminal (tree_of kind own) time a r b → d ≡ step_done r b.sheet → Goes a d b
-      by (Err r) h e = record { books = λ f. rw h.1 f; starts = rw (h.1, e) (omega arith) }
-      by (Ok s) h e =
-          let run = h.1.conducts in
-          let free = not_closed time (length a.sheet) v h.0 in
-          let fits = step_traced (Answered by_host by_terminal) kind own time v free a.job.granted (world_at a) (world_at b) run.trace (stepping b.job s) run.traces in
-          let tried = tried-spawns by_host by_terminal (tree_of kind own) time a b s h in
-          let starts : StepFits v (after (fitting_host v.task) (fitting_terminal v.task) run.trace) (stepping b.job s) = fits (fitting_host v.task) (fitting_terminal v.task) (fitting v.task) in
+      own : ℕ
+      own = (by_terminal.book a.terminal).own
+
+      by : (s : Stepped) → may_step time (length a.sheet) v ≡ Ok tt → Steps by_host by_terminal (tree_of kind own time v) a s b → CountsSpawns by_host a (step_done (Ok s) b.sheet) b → Goes (Calls.Step kind time) a (step_done (Ok s) b.sheet) b
+      by s may k counted =
+          let trace = k.conducts.trace in
+          let end = step_end b.job s in
+          let free = not_closed time (length a.sheet) v may in
+          let moves : Ends v end = step_moves kind time v _ end (way_of kind own time a b s k) in
+          let fits = λ (h : HostBook) (u : TerminalBook) (f : Fitting v.task h u).
+              step_fits time v kind _ _ free (way_traced time v (IsAnswered by_host by_terminal) kind own a.job.granted _ _ trace end k.conducts.traces h u f) in
+          let starts : StepFits v (after (fitting_host v.task) (fitting_terminal v.task) trace) end = fits (fitting_host v.task) (fitting_terminal v.task) (fitting v.task) in
           record {
+            fair = record { issued = moves.issued; taken = moves.orders; spawned = counted; tickets = λ k l _. moves.tickets k l refl; refused = tt };
             books = λ f.
-                let step : StepFits v (after (by_host.book a.host) (by_terminal.book a.terminal) run.trace) (stepping b.job s) = fits (by_host.book a.host) (by_terminal.book a.terminal) (record { roster = rw free at f.roster; grants = f.grants }) in
-                record { roster = ap (λ x. x.roster) h.1.host_book ∙ step.1; grants = ap (λ x. x.grants) h.1.terminal_book ∙ step.2; holder = holds b.job };
-            starts = rw e (omega (arith, starts.3, tried));
+                let host = by_host.book a.host in
+                let terminal = by_terminal.book a.terminal in
+                let step : StepFits v (after host terminal trace) end = fits host terminal (record { roster = rw free at f.roster; grants = f.grants }) in
+                record { roster = ap (λ x. x.roster) k.host_book ∙ step.roster; grants = ap (λ x. x.grants) k.terminal_book ∙ step.grants; holder = holds b.job };
+            starts = omega (arith, starts.starts, journal-spawns trace, tried-spawns k);
           }
 
-  pub goes : (c : Call) (a : Moment H T) (d : Done) (b : Moment H T) → Makes by_host by_terminal c a d b → Goes a d b
-  goes (Calls.Send s) a d b r = quiet_goes (send s) (send_same s) a d b r
+  pub goes : (c : Call) (a : Moment H T) (d : Done) (b : Moment H T) → Makes by_host by_terminal c a d b → Goes c a d b
+  goes (Calls.Send s) a d b r = quiet_goes (Calls.Send s) (send_value s) (send_keeps s) a d b r r
   goes (Calls.Step kind time) a d b r = step_goes kind time a d b r
-  goes (Calls.Pause signal) a d b r = quiet_goes (paused signal) (pause_same signal) a d b r
-  goes (Calls.Look ticket) a d b r = record { books = λ f. rw r.1 f; starts = rw (r.1, r.0) (omega arith) }
-  goes (Calls.Collect ticket) a d b r = quiet_goes (collected (known ticket)) (collect_same ticket) a d b r
+  goes (Calls.Pause signal) a d b r = quiet_goes (Calls.Pause signal) (pause_value signal) (pause_keeps signal) a d b r r
+  goes (Calls.Look ticket) a d b r = rw (r.1, r.0) (still_goes (Calls.Look ticket) a (look_value (known_ticket ticket) (job_view a.job)) refl)
+  goes (Calls.Collect ticket) a d b r = quiet_goes (Calls.Collect ticket) (collect_value (known_ticket ticket)) (collect_keeps ticket) a d b r r
+
+  -- what an accepted control step makes of a timer
+  pub control_taken : (time : ℕ) (a : Moment H T) (d : Done) (b : Moment H T) → is_ok d.answer ≡ true → Makes by_host by_terminal (Calls.Step Control time) a d b → TakesWhenDue time (job_view a.job) (job_view b.job)
+  control_taken time a d b k made =
+      let step = accepted made k in
+      (control_accepted time a b step.0 (a.job.in_order (not_closed time (length a.sheet) (job_view a.job) step.1)) step.2).0

@@ -2,10 +2,8 @@
 pub mod Arms
 pub mod Cases
 pub mod Counts
-pub mod Fair
 pub mod Flagged
 pub mod Followed
-pub mod Forced
 pub mod Histories
 pub mod Lawful
 pub mod Laws

@@ -31,8 +31,8 @@ abbrev pub tokens_of : List ℕ → List TokenView
 tokens_of fields = map token_of (slice_split (λ b. b == 9) fields)
 
 -- the tokens that are still to be taken
-abbrev pub left : Tokens → List TokenView
-left tokens = option_map_or (λ rest. tokens_of rest.now) tokens.rest []
+abbrev pub tokens_left : Tokens → List TokenView
+tokens_left tokens = option_map_or (λ rest. tokens_of rest.now) tokens.rest []
 
 -- the first of the tokens was taken, if there was one
 abbrev pub Takes : List TokenView → Option Token → List TokenView → Type 0
@@ -47,12 +47,12 @@ read_on n [] = Some n
 read_on n (b ∷ bs) = if is_ascii_digit b then read_on (n * 10 + (b - 48)) bs else None
 
 -- a number that is below 2^63
-abbrev pub below : ℕ → Option ℕ
-below n = if nat_lt n (2 ^ 63) then Some n else None
+abbrev pub if_below : ℕ → Option ℕ
+if_below n = if nat_lt n (2 ^ 63) then Some n else None
 
 -- the number that digits write, if it is below 2^63
 abbrev pub value_of : List ℕ → Option ℕ
-value_of digits = option_and_then below (read_on 0 digits)
+value_of digits = option_and_then if_below (read_on 0 digits)
 
 -- the number that a token writes; a word writes none
 abbrev pub number_in : TokenView → Option ℕ

@@ -10,7 +10,7 @@ mod script;
 mod token;
 
 ghost use Rattle.std.specs.Prelude.{◌≡◌, IfOk, string_bytes};
-ghost use Rattle.rehearsal.specs.Printed.{rehearsed};
+ghost use Rattle.rehearsal.specs.Printed.{rehearsal_text};
 
 pub use crate::line::{Line, parse};
 use crate::print::fault_line;
@@ -25,7 +25,7 @@ pub const MOST_BYTES: usize = 32768;
 // The text that a script prints: what each of its lines answers with the records of its calls, or
 // the number of a faulty line.
 pub fn rehearse(heap: Global, script: &[u8]) -> Result<String, AllocError>
-    ensures { IfOk result (λ text. string_bytes text ≡ rehearsed script.now) }
+    ensures { IfOk result (λ text. string_bytes text ≡ rehearsal_text script.now) }
 {
     match script::read(heap, script) {
         Ok(lines) => Rehearsal::new().perform(heap, &lines),

@@ -2,11 +2,11 @@
 ghost use Rattle.std.specs.Prelude.{◌≡◌, ◌+◌, ◌*◌, ◌≤◌, ◌∷◌, ◌++◌, length, take, OnOk, string_bytes};
 ghost use Rattle.std.specs.List.{flat_map};
 ghost use Rattle.arrayvec.specs.ArrayString.{array_string_len};
-ghost use Rattle.rehearsal.specs.Printed.{answered_text, fault_text, line_text, record_text};
+ghost use Rattle.rehearsal.specs.Printed.{result_text, fault_text, line_text, record_text};
 
 use crate::script::ScriptFault;
 use arrayvec::ArrayString;
-use drive::calls::Done;
+use drive::calls::{Done, Value};
 use host::journal::Record;
 use itoa::{Buffer, Integer};
 use std::alloc::AllocError;
@@ -62,12 +62,12 @@ pub(crate) fn fault_line(fault: ScriptFault) -> LineBuffer
 }
 
 // The number of a line, its letter, refusal and value.
-fn answer_line(number: usize, letter: char, answer: Result<u32, Refusal>) -> LineBuffer
-    ensures text { result.bytes ≡ answered_text number letter answer }
+fn answer_line(number: usize, letter: char, answer: Result<Value, Refusal>) -> LineBuffer
+    ensures text { result.bytes ≡ result_text number letter answer }
     ensures short { array_string_len result ≤ MOST_OF_ANSWER }
 {
     let (refusal, value) = match answer {
-        Ok(value) => (0, value),
+        Ok(value) => (0, u32::from(value)),
         Err(refusal) => (u8::from(refusal), 0),
     };
     let mut line = LineBuffer::new();

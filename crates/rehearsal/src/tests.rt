@@ -1,6 +1,6 @@
 // What no stored script shows: a line of the most bytes, and texts behind `c` that are no send.
 use super::*;
-use drive::calls::{Done, Tally};
+use drive::calls::{Done, Tally, Value};
 use host::journal::{Answer, CallKind, Record};
 use std::process::Abort;
 use std::test::Fail;
@@ -16,7 +16,7 @@ fn is_faulty(rt: &(impl Abort + AllocGlobal), line: &str) -> Result<(), Fail> {
 #[test]
 fn the_longest_line_fits_with_its_records(rt: HostRuntime) -> Result<(), Fail> {
     let done = Done {
-        answer: Ok(u32::MAX),
+        answer: Ok(Value::Ticket(u32::MAX.into())),
         records: usize::MAX,
         tally: Tally::default(),
     };

@@ -3,8 +3,8 @@
 ghost use Rattle.replay.specs.Terminals.{OnlyGroups};
 
 use crate::setting::Setting;
+use foreground::disposition::Handling;
 use foreground::group::Group;
-use foreground::process::Handling;
 use foreground::session::{Member, PLACES};
 use foreground::simulated::SimulatedTerminal;
 use host::journal::{Answer, CallKind, Record};

@@ -26,7 +26,8 @@ struct NoRoom {
 
 impl NoRoom {
     fn count(&mut self)
-        ensures { self.new ≡ record self.old { served = record { 0 = next_count self.old.served.0 } } }
+        ensures { self.new
+            ≡ record self.old { served = record { 0 = next_count self.old.served.0 } } }
     {
         self.served += Wrapping(1);
     }
@@ -34,7 +35,8 @@ impl NoRoom {
     // A counted call that names a child, none of which is on the roster.
     fn no_child<A>(&mut self) -> Result<A, Fault>
         ensures answer { result ≡ Err (fault 10) }
-        ensures counted { self.new ≡ record self.old { served = record { 0 = next_count self.old.served.0 } } }
+        ensures counted { self.new
+            ≡ record self.old { served = record { 0 = next_count self.old.served.0 } } }
     {
         self.count();
         Err(Fault::NO_CHILD)
@@ -48,7 +50,9 @@ impl Host for NoRoom {
 
     ghost book = { λ h. record { roster = []; served = h.served.0; spawns = h.spawns.0 } };
 
-    ghost did = { λ h c a k. HostKeeps 0 (record { roster = []; served = h.served.0; spawns = h.spawns.0 }) c a (record { roster = []; served = k.served.0; spawns = k.spawns.0 }) };
+    ghost did = { λ h c a k. HostKeeps 0
+        (record { roster = []; served = h.served.0; spawns = h.spawns.0 }) c a
+        (record { roster = []; served = k.served.0; spawns = k.spawns.0 }) };
 
     ghost keeps = { Prim.search rules };
 
@@ -129,7 +133,8 @@ struct NoTerminal {
 impl Terminal for NoTerminal {
     ghost book = { λ t. record { own = 1; grants = 0; served = t.served.0 } };
 
-    ghost did = { λ t c a u. TerminalKeeps (record { own = 1; grants = 0; served = t.served.0 }) c a (record { own = 1; grants = 0; served = u.served.0 }) };
+    ghost did = { λ t c a u. TerminalKeeps (record { own = 1; grants = 0; served = t.served.0 }) c a
+        (record { own = 1; grants = 0; served = u.served.0 }) };
 
     ghost keeps = { Prim.search rules };
 

@@ -3,13 +3,14 @@ ghost use Rattle.std.specs.Prelude.{◌≡◌};
 ghost use Rattle.supervisor.specs.Timers.{timer_message};
 
 use task::messages::{ControlMessage, GraceEnd};
+use tickets::ticket::Ticket;
 
 // When the grace ends, the ticket of the control that began it, and what is done if the child outlasts it. The timer of a restart
 // is the restart memory as well: where the child ends first, it is what continues the restart, and it is gone once it has.
 #[derive(Clone, Copy)]
 pub struct Timer {
     pub deadline: u64,
-    pub ticket: u32,
+    pub ticket: Ticket,
     pub end: GraceEnd,
 }
 
