@@ -66,7 +66,11 @@ impl Run {
                 self.session.admit(&self.sheet[..records]);
                 Some(done)
             }
-            Line::Terminal(setting) => self.session.set(setting).then_some(Ok(Value::Nothing).into()),
+            Line::Terminal(setting) => {
+                self.session
+                    .set(setting)
+                    .then_some(Ok(Value::Nothing).into())
+            }
         }
     }
 
