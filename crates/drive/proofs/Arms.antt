@@ -7,7 +7,7 @@ use Rattle.host.specs.declared.fault.Fault.{Fault}
 use Rattle.host.specs.declared.state.ProcessEnd.{ProcessEnd}
 use Rattle.host.specs.declared.state.CommandState.{CommandState}
 use Rattle.host.specs.declared.state.CommandState.TheVariants.{Pending, Running, Finished}
-use Rattle.host.specs.Calls.{Call, Reply, to_host, to_terminal, spawn}
+use Rattle.host.specs.Calls.{Call, Reply, to_host, spawn}
 use Rattle.host.specs.Calls as Calls
 use Rattle.host.specs.Interaction.{Interaction, done, bind, call}
 use Rattle.host.specs.Command.{wants_grant}
@@ -23,7 +23,7 @@ use Rattle.task.specs.declared.task.PollOutcome.TheVariants.{Faulted, Over, Rene
 use Rattle.task.specs.Task as Tree
 use Rattle.task.specs.Task.{TaskView, Course}
 use Rattle.drive.specs.Original as Original
-use Rattle.drive.specs.Original.{Amendments, Message, StopTimer}
+use Rattle.drive.specs.Original.{Amendments, StopTimer}
 use Rattle.drive.proofs.Likeness.{Like, like_then, like_made, like_if}
 
 -- an original, for what it has beside the task

@@ -29,9 +29,9 @@ use Rattle.supervisor.specs.declared.queues.Priority.TheVariants.{High}
 use Rattle.supervisor.specs.declared.sends.Send.TheVariants as Sends
 use Rattle.supervisor.specs.declared.timer.Timer.{Timer}
 use Rattle.supervisor.specs.Job as Job
-use Rattle.supervisor.specs.Job.{JobView, StepEnd, look, may_step, control_step, child_step, control_end, carry_out, tree_of}
+use Rattle.supervisor.specs.Job.{JobView, StepEnd, look, may_step, control_step, control_end, carry_out}
 use Rattle.supervisor.specs.Mailbox as Mail
-use Rattle.supervisor.specs.Mailbox.{MailboxView, has_room, may_send, message_from, with_queues}
+use Rattle.supervisor.specs.Mailbox.{MailboxView, may_send, message_from, with_queues}
 use Rattle.supervisor.specs.Steps.{Moment, step_end}
 use Rattle.supervisor.specs.Timers.{memory_of, memory, owed_starts}
 use Rattle.supervisor.proofs.Graces.{continue_way}

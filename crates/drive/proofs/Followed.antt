@@ -9,7 +9,7 @@ use Rattle.host.specs.Journal.{journal}
 use Rattle.task.proofs.Sheets.{records_are}
 use Rattle.supervisor.specs.declared.answers.StepKind.{StepKind}
 use Rattle.supervisor.specs.declared.errors.Refusal.{Refusal}
-use Rattle.supervisor.specs.Job.{JobView, may_step, tree_of}
+use Rattle.supervisor.specs.Job.{JobView}
 use Rattle.supervisor.specs.Steps.{Moment, job_view, step_end}
 use Rattle.supervisor.proofs.Steps.{not_closed}
 use Rattle.drive.specs.declared.calls.Call.{Call}

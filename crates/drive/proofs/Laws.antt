@@ -20,11 +20,11 @@ use Rattle.task.specs.declared.messages.Control as Message
 use Rattle.supervisor.proofs.Graces.{control_accepted}
 use Rattle.supervisor.proofs.Steps.{way_of, not_closed}
 use Rattle.supervisor.proofs.Ways.{Way, StepFits, step_fits, way_traced, one_at_most}
-use Rattle.supervisor.specs.Job.{JobView, StepEnd, send, look, collect, control_end, carry_out, poll_end, pause_end, tree_of, children_of, runs, may_step}
+use Rattle.supervisor.specs.Job.{JobView, StepEnd, send, look, collect, children_of, runs}
 use Rattle.supervisor.specs.Job as Spec
 use Rattle.supervisor.specs.Laws.{TakesWhenDue}
 use Rattle.supervisor.specs.Mailbox as Mail
-use Rattle.supervisor.specs.Mailbox.{TakeResult, take, may_send, MailboxView, admit_all, admit}
+use Rattle.supervisor.specs.Mailbox.{take, may_send, MailboxView, admit_all, admit}
 use Rattle.supervisor.specs.Sends.{priority_of, controls_of}
 use Rattle.supervisor.specs.Steps.{Moment, moment, job_view, step_end}
 use Rattle.supervisor.specs.Timers.{owed_starts, memory}

@@ -11,7 +11,7 @@ use Rattle.host.specs.Journal.{record_of, journal}
 use Rattle.task.specs.declared.messages.Control.{Control}
 use Rattle.task.specs.declared.messages.Control.TheVariants.{NextEnding}
 use Rattle.task.specs.Task as Tree
-use Rattle.task.specs.Task.{TaskView, closes, GrantMeansRunning, MaySetTimer}
+use Rattle.task.specs.Task.{GrantMeansRunning}
 use Rattle.host.specs.State.{is_running}
 use Rattle.task.proofs.Courses.{Carried, control_fits}
 use Rattle.task.proofs.Traced.{traced, fitting}
@@ -20,7 +20,7 @@ use Rattle.supervisor.specs.declared.answers.StepKind.TheVariants as Kinds
 use Rattle.supervisor.specs.declared.mailbox.Received as Message
 use Rattle.supervisor.specs.Job.{JobView, StepEnd, control_end, carry_out, poll_end, pause_end, tree_of}
 use Rattle.supervisor.specs.Mailbox as Mail
-use Rattle.supervisor.specs.Mailbox.{MailboxView, TakeResult, settle, settle_poll}
+use Rattle.supervisor.specs.Mailbox.{MailboxView, TakeResult, settle}
 use Rattle.supervisor.specs.Sound.{IsInOrder}
 use Rattle.supervisor.proofs.Mailboxes.{take_in}
 use Rattle.drive.specs.Original as Original

@@ -17,7 +17,7 @@ use Rattle.supervisor.specs.declared.sends.Send.{Send}
 use Rattle.supervisor.specs.Job as Job
 use Rattle.supervisor.specs.Job.{JobView, with_mailbox}
 use Rattle.supervisor.specs.Mailbox as Mail
-use Rattle.supervisor.specs.Mailbox.{MailboxView, QueuesView, message, enqueue, admit, admit_all, may_send}
+use Rattle.supervisor.specs.Mailbox.{MailboxView, admit, admit_all, may_send}
 use Rattle.supervisor.specs.Sends.{priority_of, controls_of}
 use Rattle.supervisor.specs.Sound.{HasNoneLater}
 use Rattle.drive.specs.Follows.{is_raised, Agrees}

@@ -1,5 +1,5 @@
 -- Eight worked cases, of the calls that a run makes.
-use Rattle.std.specs.Prelude.{◌≡◌, ℕ, ◌+◌, ◌≤◌, Bool, true, false, not, ◌&&◌, ◌||◌, is_ok, List, [], ◌∷◌, length, map, take, None, Ok, Err}
+use Rattle.std.specs.Prelude.{◌≡◌, ℕ, ◌+◌, ◌≤◌, true, false, not, is_ok, List, [], ◌∷◌, length, map, take, None, Ok, Err}
 use Rattle.std.specs.List.{count_by, filter}
 use Rattle.host.specs.declared.journal.CallKind.TheVariants.{Spawn, Wait, Kill}
 use Rattle.host.specs.declared.journal.Record.{Record}

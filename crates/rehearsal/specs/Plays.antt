@@ -32,7 +32,8 @@ pub record State : Type 0 where
 
 -- a job that was just made, on a new host whose children ignore the signals of the mask's lower 32 bits, and a new terminal
 abbrev pub new_state : ℕ → JobView → State
-new_state mask job = record { job = job; outside = record { host = Simulated.fresh_host (mask % 2 ^ 32) job.task.command.options; terminal = Absent.fresh_book } }
+new_state mask job =
+    record { job = job; outside = record { host = Simulated.fresh_host (mask % 2 ^ 32) job.task.command.options; terminal = Absent.fresh_book } }
 
 -- a script begins with a job of the program 1 without options, and no signal is ignored
 abbrev pub plain_command : Command
@@ -79,7 +80,11 @@ make_job s mask (Err refusal) = play_quietly s (s.job, Err refusal)
 abbrev pub tell_event : State → ℕ → Life → PlayEnd
 tell_event s child life =
     if nat_lt child (2 ^ 32) && is_living (life_of child s.outside.host.children)
-    then record { answer = Ok Nothing; records = []; state = record s { outside = record s.outside { host = Simulated.make_happen child life s.outside.host } } }
+    then record {
+      answer = Ok Nothing;
+      records = [];
+      state = record s { outside = record s.outside { host = Simulated.make_happen child life s.outside.host } };
+    }
     else play_quietly s (s.job, Err Unknown)
 
 abbrev pub play : State → Line → PlayEnd

@@ -66,7 +66,8 @@ impl Rehearsal {
     }
 
     fn make(&mut self, options: u64, mask: u64) -> Result<Value, Refusal>
-        ensures { answer_end result self.new ≡ make_job (state_of self.old) mask (Spec.make 1 options) }
+        ensures { answer_end result self.new
+            ≡ make_job (state_of self.old) mask (Spec.make 1 options) }
     {
         let options = u8::try_from(options).map_err(|_| Refusal::Number)?;
         *self = Rehearsal::with(options, mask)?;
