@@ -36,11 +36,7 @@ pub(crate) fn read_line(text: &str) -> Option<Line> {
 // The first line: the job, with its options and its program.
 pub(crate) fn read_job(text: &str) -> Option<Job> {
     let (options, program) = two(text.strip_prefix("M\t")?)?;
-    let (program, options) = (u8::try_from(program).ok()?, u8::try_from(options).ok()?);
-    match Job::new(program, options) {
-        Ok(job) => Some(job),
-        Err(_) => None,
-    }
+    Job::new(u8::try_from(program).ok()?, u8::try_from(options).ok()?).ok()
 }
 
 // The second line: the answers of the host, written as in the journal.

@@ -80,9 +80,7 @@ impl Run {
             self.old (string_bytes text.old) self.new (string_bytes text.new)) }
     {
         let said = read_line(read).ok_or(ScriptError::Line(number))?;
-        let Some(done) = self.play(said) else {
-            return Err(ScriptError::Line(number));
-        };
+        let done = self.play(said).ok_or(ScriptError::Line(number))?;
         let letter = read.chars().next().ok_or(ScriptError::Line(number))?;
         write_line(text, number, letter, done, &self.sheet)?;
         Ok(())
