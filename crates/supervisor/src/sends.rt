@@ -41,7 +41,8 @@ impl From<Control> for Controls {
 
 // A control after another one.
 impl From<(Control, Control)> for Controls {
-    ghost from_gives = { λ pair controls. controls ≡ record { before = Some pair.0; last = pair.1 } };
+    ghost from_gives = { λ pair controls. controls
+        ≡ record { before = Some pair.0; last = pair.1 } };
 
     fn from((before, last): (Control, Control)) -> Controls {
         Controls {

@@ -47,7 +47,8 @@ impl Job {
 
     // Sends the command a signal, and stops it if it has not ended within the grace.
     pub fn stop_with_signal(&mut self, signal: u8, grace: u32) -> Result<Ticket, Refusal>
-        ensures { Answers (Spec.send (Sends.StopWithSignal signal grace)) self.old (by_serial result) self.new }
+        ensures { Answers (Spec.send (Sends.StopWithSignal signal grace))
+            self.old (by_serial result) self.new }
     {
         self.send(Send::StopWithSignal { signal, grace })
     }
