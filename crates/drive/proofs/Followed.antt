@@ -20,7 +20,7 @@ use Rattle.drive.specs.Calls.{Makes, AnswersAlone}
 use Rattle.drive.specs.Follows.{Agrees, IsApart, own, Does, DoesIf, IsUntouched, Follow, MatchesOriginal}
 use Rattle.drive.specs.Original as Original
 use Rattle.drive.specs.Original.{Amendments, all_amendments, no_amendments}
-use Rattle.drive.specs.Turns.{Turn, Linked}
+use Rattle.drive.specs.Turns.{Turn, IsLinked}
 use Rattle.drive.proofs.Laws.{linked_so, linked_first}
 use Rattle.drive.proofs.Flagged.{agree}
 use Rattle.drive.proofs.Originals.{branch_comes}
@@ -80,7 +80,7 @@ module _ {H T : Type 0} (by_host : Host.Ghosts H) (by_terminal : Terminal.Ghosts
       quiet_comes (Calls.Collect ticket) (λ o. o) agrees (λ _. collect_agrees ticket (λ free. (a.job.in_order free).once) agrees) made refl
 
   follow : (cs : List Call) (a : Moment H T) (o : Original.Original) (ts : List (Turn (Moment H T))) (b : Moment H T) → Agrees (job_view a.job) o
-      → Linked Untouched cs a ts b → Linked (Makes by_host by_terminal) cs a ts b → Follow by_host by_terminal am cs a o ts
+      → IsLinked Untouched cs a ts b → IsLinked (Makes by_host by_terminal) cs a ts b → Follow by_host by_terminal am cs a o ts
   follow [] a o ts b agrees u h = agrees
   follow (c ∷ cs) a o [] b agrees u h = cc h.2
   follow (c ∷ cs) a o (t ∷ ts) b agrees u h =
@@ -90,7 +90,7 @@ module _ {H T : Type 0} (by_host : Host.Ghosts H) (by_terminal : Terminal.Ghosts
       (agrees, (o'.0, o'.1, follow cs t.at o'.0 ts b o'.2 apart.1 made.1))
 
 pub originals : {H T : Type 0} (by_host : Host.Ghosts H) (by_terminal : Terminal.Ghosts T) (cs : List Call) (a : Moment H T) (ts : List (Turn (Moment H T)))
-    (b : Moment H T) → Linked (Makes by_host by_terminal) cs a ts b → MatchesOriginal by_host by_terminal cs a ts b
+    (b : Moment H T) → IsLinked (Makes by_host by_terminal) cs a ts b → MatchesOriginal by_host by_terminal cs a ts b
 originals {H} {T} by_host by_terminal cs a ts b h = record {
   on_every_list = λ o agrees.
       let amended = linked_so (Makes by_host by_terminal) (IsUntouched by_host by_terminal all_amendments) amends cs a ts b h in

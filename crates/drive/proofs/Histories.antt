@@ -12,7 +12,7 @@ use Rattle.drive.specs.declared.calls.Tally.{Tally}
 use Rattle.drive.specs.declared.calls.Value.{Value}
 use Rattle.drive.specs.declared.calls.Value.TheVariants.{Nothing}
 use Rattle.drive.specs.Calls.{Makes}
-use Rattle.drive.specs.Turns.{Turn, Linked, answers_of, tried_in, ordered_in}
+use Rattle.drive.specs.Turns.{Turn, IsLinked, answers_of, tried_in, ordered_in}
 use Rattle.drive.specs.Runs.{Drives}
 use Rattle.drive.proofs.Cases.{cases}
 use Rattle.drive.proofs.Followed.{originals}
@@ -22,12 +22,12 @@ use Rattle.drive.proofs.Steps.{makes_few, makes-spawns}
 -- ONE MORE
 
 module _ {M : Type 0} (R : Call → M → Done → M → Type 0) where
-  linked_more : (cs : List Call) (a : M) (ts : List (Turn M)) (b : M) (c : Call) (t : Turn M) → Linked R cs a ts b → R c b t.did t.at
-      → Linked R (cs ++ c ∷ []) a (ts ++ t ∷ []) t.at
+  linked_more : (cs : List Call) (a : M) (ts : List (Turn M)) (b : M) (c : Call) (t : Turn M) → IsLinked R cs a ts b → R c b t.did t.at
+      → IsLinked R (cs ++ c ∷ []) a (ts ++ t ∷ []) t.at
   linked_more [] a ts b c t h r = rw (h.0, ← h.1) (t, [], refl, r, (refl, refl))
   linked_more (q ∷ cs) a ts b c t h r = (h.0, h.1 ++ t ∷ [], cc, h.3, linked_more cs h.0.at h.1 b c t h.4 r)
 
-  linked-length : (cs : List Call) (a : M) (ts : List (Turn M)) (b : M) → Linked R cs a ts b → length (answers_of ts) ≡ length cs
+  linked-length : (cs : List Call) (a : M) (ts : List (Turn M)) (b : M) → IsLinked R cs a ts b → length (answers_of ts) ≡ length cs
   linked-length [] a ts b h = grind arith
   linked-length (c ∷ cs) a ts b h = grind (arith, linked-length cs h.0.at h.1 b h.4)
 
@@ -39,7 +39,7 @@ written_more rs xs i y e l = grind (arith, common_steps, drop_more xs i (Ok Noth
 -- THE RUN SO FAR
 
 module _ {H T : Type 0} (by_host : Host.Ghosts H) (by_terminal : Terminal.Ghosts T) where
-  linked-spawns : (cs : List Call) (a : Moment H T) (ts : List (Turn (Moment H T))) (b : Moment H T) → Linked (Makes by_host by_terminal) cs a ts b
+  linked-spawns : (cs : List Call) (a : Moment H T) (ts : List (Turn (Moment H T))) (b : Moment H T) → IsLinked (Makes by_host by_terminal) cs a ts b
       → (by_host.book b.host).spawns % 2 ^ 64 ≡ ((by_host.book a.host).spawns + tried_in ts) % 2 ^ 64
   linked-spawns [] a ts b h = grind arith
   linked-spawns (c ∷ cs) a ts b h = grind (arith, common_steps, linked-spawns cs h.0.at h.1 b h.4, makes-spawns by_host by_terminal a c h.0.did h.0.at h.3)
@@ -48,7 +48,7 @@ module _ {H T : Type 0} (by_host : Host.Ghosts H) (by_terminal : Terminal.Ghosts
   pub record SoFar (calls : List Call) (i : ℕ) (a : Moment H T) (xs : List (Result Value Refusal)) (tried ordered : ℕ) (b : Moment H T)
       (ys : List (Result Value Refusal)) : Type 0 where
     pub turns : List (Turn (Moment H T))
-    pub linked : Linked (Makes by_host by_terminal) (take i calls) a turns b
+    pub linked : IsLinked (Makes by_host by_terminal) (take i calls) a turns b
     pub answers : ys ≡ answers_of turns ++ drop i xs
     pub tried_is : tried ≡ tried_in turns
     pub ordered_is : ordered ≡ ordered_in turns
@@ -82,7 +82,7 @@ module _ {H T : Type 0} (by_host : Host.Ghosts H) (by_terminal : Terminal.Ghosts
       {ys : List (Result Value Refusal)} → i ≡ length calls → SoFar calls i a xs tally.tried tally.ordered b ys
       → Drives by_host by_terminal calls a xs tally b ys
   all_made {calls} {i} {a} {xs} {tally} {b} {ys} e h =
-      let all : Linked (Makes by_host by_terminal) calls a h.turns b = rw (take_all i calls (omega arith)) at h.linked in
+      let all : IsLinked (Makes by_host by_terminal) calls a h.turns b = rw (take_all i calls (omega arith)) at h.linked in
       record {
         turns = h.turns;
         linked = all;

@@ -45,7 +45,7 @@ use Rattle.drive.specs.declared.calls.Value.{Value}
 use Rattle.drive.specs.Values.{ticket_value}
 use Rattle.drive.specs.declared.calls.Call.TheVariants.{Step}
 use Rattle.drive.specs.Restarts.{KeepsRestartLaws}
-use Rattle.drive.specs.Turns.{Turn, Linked, tried_in, ordered_in}
+use Rattle.drive.specs.Turns.{Turn, IsLinked, tried_in, ordered_in}
 use Rattle.drive.proofs.Mailboxes.{Moves, any, still_moves, carried_moves, settle_poll_moves, admit_all_moves, vacate_moves}
 use Rattle.drive.proofs.Steps.{CountsSpawns, step_cases, makes-spawns, accepted, tried-spawns}
 
@@ -216,13 +216,13 @@ in_one_place s m h = omega (arith, h.balance (one_at s), one_standing s m.ticket
 
 -- calls that are linked by one relation are by another that follows from it
 pub linked_so : {M : Type 0} (R S : Call → M → Done → M → Type 0) → ((c : Call) (a : M) (d : Done) (b : M) → R c a d b → S c a d b)
-    → (cs : List Call) (a : M) (ts : List (Turn M)) (b : M) → Linked R cs a ts b → Linked S cs a ts b
+    → (cs : List Call) (a : M) (ts : List (Turn M)) (b : M) → IsLinked R cs a ts b → IsLinked S cs a ts b
 linked_so R S k [] a ts b h = h
 linked_so R S k (c ∷ cs) a ts b h = (h.0, h.1, h.2, k c a h.0.did h.0.at h.3, linked_so R S k cs h.0.at h.1 b h.4)
 
 -- the first turn, and those behind it
 pub linked_first : {M : Type 0} (R : Call → M → Done → M → Type 0) (c : Call) (cs : List Call) (a : M) (t : Turn M) (ts : List (Turn M)) (b : M)
-    → Linked R (c ∷ cs) a (t ∷ ts) b → R c a t.did t.at × Linked R cs t.at ts b
+    → IsLinked R (c ∷ cs) a (t ∷ ts) b → R c a t.did t.at × IsLinked R cs t.at ts b
 linked_first R c cs a t ts b h =
     let same : t ≡ h.0 = cc h.2 in
     let others : ts ≡ h.1 = cc h.2 in
@@ -230,7 +230,7 @@ linked_first R c cs a t ts b h =
 
 module _ {H T : Type 0} (by_host : Host.Ghosts H) (by_terminal : Terminal.Ghosts T) where
   abbrev MakesAll : List Call → Moment H T → List (Turn (Moment H T)) → Moment H T → Type 0
-  MakesAll cs a ts b = Linked (Makes by_host by_terminal) cs a ts b
+  MakesAll cs a ts b = IsLinked (Makes by_host by_terminal) cs a ts b
 
   abbrev owed : Moment H T → ℕ
   owed a = owed_starts (job_at a).mailbox.timer

@@ -32,7 +32,7 @@ use Rattle.drive.specs.declared.calls.Value.{Value}
 use Rattle.drive.specs.declared.calls.Call.TheVariants as Calls
 use Rattle.drive.specs.declared.calls.Done.{Done}
 use Rattle.drive.specs.Original.{Amendments, all_amendments, no_amendments, Original, Message, StopTimer, branch, send, notice, fresh_original}
-use Rattle.drive.specs.Turns.{Turn, Linked}
+use Rattle.drive.specs.Turns.{Turn, IsLinked}
 
 -- THE CALLS
 
@@ -144,6 +144,6 @@ module _ {H T : Type 0} (by_host : Host.Ghosts H) (by_terminal : Terminal.Ghosts
 pub record MatchesOriginal {H T : Type 0} (by_host : Host.Ghosts H) (by_terminal : Terminal.Ghosts T) (calls : List Call) (a : Moment H T)
     (turns : List (Turn (Moment H T))) (b : Moment H T) : Type 0 where
   pub on_every_list : (o : Original) → Agrees (job_view a.job) o → Follow by_host by_terminal all_amendments calls a o turns
-  pub untouched : (o : Original) → Agrees (job_view a.job) o → Linked (IsUntouched by_host by_terminal no_amendments) calls a turns b
+  pub untouched : (o : Original) → Agrees (job_view a.job) o → IsLinked (IsUntouched by_host by_terminal no_amendments) calls a turns b
       → Follow by_host by_terminal no_amendments calls a o turns
   pub from_fresh : (c : Command) → job_view a.job ≡ Job.fresh_job c → Agrees (job_view a.job) (fresh_original c)

@@ -23,7 +23,7 @@ use Rattle.drive.specs.declared.calls.Call.{Call}
 use Rattle.drive.specs.declared.calls.Value.{Value}
 use Rattle.drive.specs.declared.calls.Call.TheVariants.{Send, Collect}
 use Rattle.drive.specs.declared.calls.Done.{Done}
-use Rattle.drive.specs.Turns.{Turn, Linked}
+use Rattle.drive.specs.Turns.{Turn, IsLinked}
 
 abbrev pub job_at : {H T : Type 0} → Moment H T → JobView
 job_at m = job_view m.job
@@ -92,4 +92,4 @@ pub record KeepsLaws {H T : Type 0} (by_host : Host.Ghosts H) (by_terminal : Ter
   pub lawful : BooksFit by_host by_terminal a → AtEach (IsLawful by_host by_terminal (owed_starts (job_at a).mailbox.timer)) 0 0 a turns
   pub from_fresh : (c : Command) → job_at a ≡ fresh_job c → (by_host.book a.host).roster ≡ no_child → (by_terminal.book a.terminal).grants ≡ 0
       → AtEach (IsLawful by_host by_terminal 0) 0 0 a turns
-  pub fair : Linked (IsFair by_host by_terminal) calls a turns b
+  pub fair : IsLinked (IsFair by_host by_terminal) calls a turns b

@@ -10,7 +10,7 @@ use Rattle.drive.specs.declared.calls.Value.{Value}
 use Rattle.drive.specs.declared.calls.Tally.{Tally}
 use Rattle.drive.specs.Calls.{Makes}
 use Rattle.drive.specs.Cases.{MeetsCases}
-use Rattle.drive.specs.Turns.{Turn, Linked, answers_of, tried_in, ordered_in}
+use Rattle.drive.specs.Turns.{Turn, IsLinked, answers_of, tried_in, ordered_in}
 use Rattle.drive.specs.Laws.{KeepsLaws}
 use Rattle.drive.specs.Restarts.{KeepsRestartLaws}
 use Rattle.drive.specs.Follows.{MatchesOriginal}
@@ -22,7 +22,7 @@ use Rattle.drive.specs.Follows.{MatchesOriginal}
 pub record Drives {H T : Type 0} (by_host : Host.Ghosts H) (by_terminal : Terminal.Ghosts T) (calls : List Call) (a : Moment H T)
     (xs : List (Result Value Refusal)) (tally : Tally) (b : Moment H T) (ys : List (Result Value Refusal)) : Type 0 where
   pub turns : List (Turn (Moment H T))
-  pub linked : Linked (Makes by_host by_terminal) calls a turns b
+  pub linked : IsLinked (Makes by_host by_terminal) calls a turns b
   pub answers : ys ≡ answers_of turns ++ drop (length calls) xs
   pub tried : tally.tried ≡ tried_in turns
   pub ordered : tally.ordered ≡ ordered_in turns

@@ -12,9 +12,9 @@ pub record Turn (M : Type 0) : Type 0 where
   pub at : M
 
 -- The turns ts follow the moment a, one for each call, each led to from the moment before it, and b is the last moment.
-abbrev pub Linked : {M : Type 0} (R : Call → M → Done → M → Type 0) → List Call → M → List (Turn M) → M → Type 0
-Linked R [] a ts b = (ts ≡ []) × (b ≡ a)
-Linked {M} R (c ∷ cs) a ts b = (t : Turn M) × (us : List (Turn M)) × (ts ≡ t ∷ us) × R c a t.did t.at × Linked R cs t.at us b
+abbrev pub IsLinked : {M : Type 0} (R : Call → M → Done → M → Type 0) → List Call → M → List (Turn M) → M → Type 0
+IsLinked R [] a ts b = (ts ≡ []) × (b ≡ a)
+IsLinked {M} R (c ∷ cs) a ts b = (t : Turn M) × (us : List (Turn M)) × (ts ≡ t ∷ us) × R c a t.did t.at × IsLinked R cs t.at us b
 
 -- the answers of turns, and their counts
 abbrev pub answers_of : {M : Type 0} → List (Turn M) → List (Result Value Refusal)

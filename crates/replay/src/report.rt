@@ -1,6 +1,6 @@
 // What is said of a sample: where the job answers as was recorded and where it doesn't.
 ghost use Rattle.std.specs.Prelude.{◌≡◌, OnOk};
-ghost use Rattle.replay.specs.Verdict.{counted, found};
+ghost use Rattle.replay.specs.Verdict.{count_verdict, verdict_of};
 
 use crate::recorded::{Expected, Recorded, part};
 use crate::run::{ScriptError, answered};
@@ -83,7 +83,8 @@ fn write_found(
 impl Report {
     fn tell(&mut self, script: Recorded<'_>, ours: &str) -> Result<(), AllocError>
         ensures { OnOk result
-            (self.new.tally ≡ counted (found script.entry.expected ours.now) self.old.tally) }
+            (self.new.tally
+            ≡ count_verdict (verdict_of script.entry.expected ours.now) self.old.tally) }
     {
         let verdict = compare(script.expected, ours);
         self.tally.count(verdict);

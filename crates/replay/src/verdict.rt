@@ -1,6 +1,6 @@
 // What is found of a script: whether the job answers it as was recorded.
 ghost use Rattle.std.specs.Prelude.{◌≡◌};
-ghost use Rattle.replay.specs.Verdict.{counted, found};
+ghost use Rattle.replay.specs.Verdict.{count_verdict, verdict_of};
 
 use crate::recorded::Expected;
 
@@ -17,7 +17,7 @@ pub(crate) enum Verdict {
 
 // By every byte of the two texts.
 pub(crate) fn compare(expected: Expected<'_>, ours: &str) -> Verdict
-    ensures { result ≡ found expected.entry ours.now }
+    ensures { result ≡ verdict_of expected.entry ours.now }
 {
     match expected {
         Expected::None => Verdict::Unrecorded,
@@ -43,7 +43,7 @@ impl Tally {
     // A script without recorded answers isn't counted; no count goes past the greatest number of
     // its type.
     pub(crate) fn count(&mut self, verdict: Verdict)
-        ensures { self.new ≡ counted verdict self.old }
+        ensures { self.new ≡ count_verdict verdict self.old }
     {
         match verdict {
             Verdict::Unrecorded => (),
