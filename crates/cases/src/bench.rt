@@ -1,6 +1,6 @@
 // Calls on a job, and what is expected of each. Nothing is promised of the two functions that make them: so a test's proof has none of
 // what `make` and `drive` promise.
-use drive::calls::{Call, Tally};
+use drive::calls::{Call, Tally, Value};
 use drive::runs;
 use host::journal::Record;
 use host::process::Host;
@@ -11,22 +11,23 @@ use supervisor::answers::{Progress, StepKind};
 use supervisor::errors::Refusal;
 use supervisor::job::Job;
 use supervisor::sends::Send;
+use tickets::ticket::Ticket;
 
 // What a call is answered.
-pub type Given = Result<u32, Refusal>;
+pub type Given = Result<Value, Refusal>;
 
-pub const NOTHING: Given = Ok(0);
+pub const NOTHING: Given = Ok(Value::Nothing);
 
-pub(crate) fn ticket(number: u32) -> Given {
-    Ok(number)
+pub(crate) fn ticket(serial: u32) -> Given {
+    Ok(Value::Ticket(Ticket { serial }))
 }
 
 pub(crate) fn looked(is_done: bool) -> Given {
-    Ok(u32::from(is_done))
+    Ok(Value::IsDone(is_done))
 }
 
 fn progress(progress: Progress) -> Given {
-    Ok(u32::from(u8::from(progress)))
+    Ok(Value::Progress(progress))
 }
 
 pub(crate) fn idle() -> Given {

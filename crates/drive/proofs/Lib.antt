@@ -1,13 +1,9 @@
 -- What is shown of whole runs: what a call counts, how a history grows, and what a step leaves.
 pub mod Arms
 pub mod Cases
-pub mod Counts
-pub mod Fair
 pub mod Flagged
 pub mod Followed
-pub mod Forced
 pub mod Histories
-pub mod Lawful
 pub mod Laws
 pub mod Likeness
 pub mod Mailboxes

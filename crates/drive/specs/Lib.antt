@@ -8,3 +8,4 @@ pub mod Original
 pub mod Restarts
 pub mod Runs
 pub mod Turns
+pub mod Values

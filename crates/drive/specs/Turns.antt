@@ -3,6 +3,7 @@ use Rattle.std.specs.Prelude.{◌≡◌, ℕ, List, [], ◌∷◌, map, Result}
 use Rattle.std.specs.List.{sum_by}
 use Rattle.supervisor.specs.declared.errors.Refusal.{Refusal}
 use Rattle.drive.specs.declared.calls.Call.{Call}
+use Rattle.drive.specs.declared.calls.Value.{Value}
 use Rattle.drive.specs.declared.calls.Done.{Done}
 
 -- what a call did, and the moment after it
@@ -16,7 +17,7 @@ Linked R [] a ts b = (ts ≡ []) × (b ≡ a)
 Linked {M} R (c ∷ cs) a ts b = (t : Turn M) × (us : List (Turn M)) × (ts ≡ t ∷ us) × R c a t.did t.at × Linked R cs t.at us b
 
 -- the answers of turns, and their counts
-abbrev pub answers_of : {M : Type 0} → List (Turn M) → List (Result ℕ Refusal)
+abbrev pub answers_of : {M : Type 0} → List (Turn M) → List (Result Value Refusal)
 answers_of ts = map (λ t. t.did.answer) ts
 
 abbrev pub tried_in : {M : Type 0} → List (Turn M) → ℕ

@@ -1,22 +1,25 @@
 // A run of calls on a job, a host and a terminal, with one sheet.
 ghost use Rattle.std.specs.Prelude.{◌≡◌, ◌≤◌, length, take, IfOk};
+ghost use Rattle.host.specs.Journal.{spawns_among};
 ghost use Rattle.supervisor.specs.Steps as Steps;
 ghost use Rattle.supervisor.specs.Steps.{job_view, moment};
 ghost use Rattle.drive.specs.Answers as Answers;
 ghost use Rattle.drive.specs.Calls as Calls;
 ghost use Rattle.drive.specs.Runs as Runs;
 
-use crate::calls::{Call, Done, Tally};
+use crate::calls::{Call, Done, Tally, Value};
 use host::journal::{CallKind, Record};
 use host::process::Host;
 use host::terminal::Terminal;
 use supervisor::answers::Stepped;
 use supervisor::errors::Refusal;
 use supervisor::job::Job;
+use supervisor::sends::Send;
+use tickets::ticket::Ticket;
 
 // The spawns among records.
 fn spawns_among(records: &[Record]) -> usize
-    ensures { result ≡ Answers.spawn_records records.now }
+    ensures { result ≡ spawns_among records.now }
 {
     records
         .iter()
@@ -36,7 +39,7 @@ fn stepped(answer: Result<Stepped, Refusal>, sheet: &[Record]) -> Done
                 ordered: usize::from(step.ordered),
             };
             Done {
-                answer: Ok(u32::from(u8::from(step.progress))),
+                answer: Ok(Value::Progress(step.progress)),
                 records: step.records,
                 tally,
             }
@@ -47,29 +50,42 @@ fn stepped(answer: Result<Stepped, Refusal>, sheet: &[Record]) -> Done
 
 // No ticket and no child has a number of more than 32 bits.
 pub fn known(number: u64) -> Result<u32, Refusal>
-    ensures { result ≡ Calls.known number }
+    ensures { result ≡ Calls.known_ticket number }
 {
     u32::try_from(number).map_err(|_| Refusal::Unknown)
 }
 
-fn pause(job: &mut Job, signal: u8) -> Result<u32, Refusal>
-    ensures { Steps.Answers (Calls.paused signal) job.old result job.new }
+fn known_ticket(number: u64) -> Result<Ticket, Refusal>
+    ensures { Steps.by_serial result ≡ Calls.known_ticket number }
+{
+    Ok(known(number)?.into())
+}
+
+fn send(job: &mut Job, send: Send) -> Result<Value, Refusal>
+    ensures { Steps.Answers (Calls.send_value send) job.old result job.new }
+{
+    Ok(Value::Ticket(job.send(send)?))
+}
+
+fn pause(job: &mut Job, signal: u8) -> Result<Value, Refusal>
+    ensures { Steps.Answers (Calls.pause_value signal) job.old result job.new }
 {
     job.pause(signal)?;
-    Ok(0)
+    Ok(Value::Nothing)
 }
 
-fn look(job: &Job, ticket: u64) -> Result<u32, Refusal>
-    ensures { result ≡ Calls.looked (Calls.known ticket) (job_view job.now) }
+fn look(job: &Job, ticket: u64) -> Result<Value, Refusal>
+    ensures { result ≡ Calls.look_value (Calls.known_ticket ticket) (job_view job.now) }
 {
-    Ok(u32::from(job.look(known(ticket)?)?))
+    Ok(Value::IsDone(job.look(known_ticket(ticket)?)?))
 }
 
-fn collect(job: &mut Job, ticket: u64) -> Result<u32, Refusal>
-    ensures { Steps.Answers (Calls.collected (Calls.known ticket)) job.old result job.new }
+fn collect(job: &mut Job, ticket: u64) -> Result<Value, Refusal>
+    ensures { Steps.Answers (Calls.collect_value (Calls.known_ticket ticket))
+        job.old result job.new }
 {
-    job.collect(known(ticket)?)?;
-    Ok(0)
+    job.collect(known_ticket(ticket)?)?;
+    Ok(Value::Nothing)
 }
 
 // Makes one call, which is data of the caller's, and so no closure. What it is lent comes one by one, as a step takes it.
@@ -80,10 +96,12 @@ pub fn make<H: Host, T: Terminal>(
     sheet: &mut [Record],
     call: Call,
 ) -> Done
-    ensures { Calls.Makes H.Host T.Terminal call (moment job.old host.old terminal.old sheet.old) result (moment job.new host.new terminal.new sheet.new) }
+    ensures { Calls.Makes H.Host T.Terminal call
+        (moment job.old host.old terminal.old sheet.old) result
+        (moment job.new host.new terminal.new sheet.new) }
 {
     match call {
-        Call::Send(send) => job.send(send).into(),
+        Call::Send(what) => send(job, what).into(),
         Call::Step { kind, time } => {
             let answer = job.step(kind, host, terminal, sheet, time);
             stepped(answer, sheet)
@@ -101,9 +119,11 @@ pub fn drive<H: Host, T: Terminal>(
     terminal: &mut T,
     calls: &[Call],
     sheet: &mut [Record],
-    answers: &mut [Result<u32, Refusal>],
+    answers: &mut [Result<Value, Refusal>],
 ) -> Result<Tally, Refusal>
-    ensures { Runs.Drives H.Host T.Terminal calls.now (moment job.old host.old terminal.old sheet.old) answers.old result (moment job.new host.new terminal.new sheet.new) answers.new }
+    ensures { Runs.DrivesOrRefuses H.Host T.Terminal calls.now
+        (moment job.old host.old terminal.old sheet.old) answers.old result
+        (moment job.new host.new terminal.new sheet.new) answers.new }
 {
     if answers.len() < calls.len() {
         return Err(Refusal::Sheet);

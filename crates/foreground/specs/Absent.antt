@@ -10,8 +10,8 @@ abbrev pub book_of : AbsentTerminal → TerminalBook
 book_of t = record { own = 1; grants = 0; served = t.served.0 }
 
 -- the book of a new one
-abbrev pub fresh : TerminalBook
-fresh = record { own = 1; grants = 0; served = 0 }
+abbrev pub fresh_book : TerminalBook
+fresh_book = record { own = 1; grants = 0; served = 0 }
 
 -- there is no owner, an acquire faults with 6, and a release does nothing
 abbrev pub answer : (c : TerminalCall) → TerminalReply c
@@ -20,9 +20,9 @@ answer (acquire group) = Err (fault 6)
 answer release = tt
 
 -- the book with one more call served
-abbrev pub counted : TerminalBook → TerminalBook
-counted b = record b { served = next_count b.served }
+abbrev pub count_call : TerminalBook → TerminalBook
+count_call b = record b { served = next_count b.served }
 
 -- a call of a terminal was answered so, and left the terminal so
 abbrev pub Did : AbsentTerminal → (c : TerminalCall) → TerminalReply c → AbsentTerminal → Type 0
-Did t c a u = (a ≡ answer c) × (book_of u ≡ counted (book_of t))
+Did t c a u = (a ≡ answer c) × (book_of u ≡ count_call (book_of t))

@@ -1,6 +1,6 @@
 -- The definitions of the absent terminal and of the simulated one.
 pub mod Absent
-pub mod Book
+pub mod AbsentBook
 pub mod Group
 pub mod Session
 pub mod Posix

@@ -1,8 +1,8 @@
 // The absent terminal: nobody has its foreground, and nobody gets it.
 ghost use Rattle.std.specs.Prelude.{◌≡◌};
 ghost use Rattle.std.proofs.Common.{rules};
-ghost use Rattle.foreground.specs.Absent.{Did, answer, book_of, fresh};
-ghost use Rattle.foreground.specs.Book.{answered};
+ghost use Rattle.foreground.specs.Absent.{Did, answer, book_of, fresh_book};
+ghost use Rattle.foreground.specs.AbsentBook.{keeps_book};
 
 use host::fault::Fault;
 use host::terminal::Terminal;
@@ -16,7 +16,7 @@ pub struct AbsentTerminal {
 
 impl AbsentTerminal {
     pub fn new() -> Self
-        ensures { book_of result ≡ fresh }
+        ensures { book_of result ≡ fresh_book }
     {
         AbsentTerminal {
             served: Wrapping(0),
@@ -29,7 +29,7 @@ impl Terminal for AbsentTerminal {
 
     ghost did = { Did };
 
-    ghost keeps = { λ t c a u d. rw (d.0, d.1) (answered t c) };
+    ghost keeps = { λ t c a u d. rw (d.0, d.1) (keeps_book t c) };
 
     ghost sound = { Prim.search rules };
 

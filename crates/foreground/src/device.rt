@@ -3,8 +3,8 @@ ghost use Rattle.std.specs.Prelude.{◌≡◌};
 ghost use Rattle.foreground.specs.View.{tty_of};
 ghost use Rattle.foreground.specs.Posix as Posix;
 
+use crate::disposition::{Disposition, Handling};
 use crate::group::Group;
-use crate::process::{Handling, Process};
 use crate::session::Session;
 use host::fault::Fault;
 
@@ -12,7 +12,7 @@ use host::fault::Fault;
 pub(crate) const NOT_PERMITTED: Fault = Fault { code: 1 };
 
 // The group has no process (ESRCH).
-pub(crate) const NO_PROCESS: Fault = Fault { code: 3 };
+const NO_PROCESS: Fault = Fault { code: 3 };
 
 #[derive(Drop)]
 pub(crate) struct Device {
@@ -22,14 +22,15 @@ pub(crate) struct Device {
 }
 
 impl Device {
-    // Whether a write stops the caller: whether it is sent signal 22, since it is in the background and doesn't ignore that.
-    fn stops(&self, caller: &Process) -> bool
-        ensures { result ≡ Posix.is_stopped (tty_of caller.now self.now) }
+    // Whether a write stops the caller, which is in this group: whether it is sent signal 22, since it is in the background and
+    // doesn't ignore that.
+    fn stops(&self, own: Group, disposition: Disposition) -> bool
+        ensures { result ≡ Posix.is_stopped (tty_of own disposition self.now) }
     {
-        caller.handling != Handling::Ignored
+        disposition.handling != Handling::Ignored
             && !self
                 .foreground
-                .is_some_and(|group| group.number == caller.group.number)
+                .is_some_and(|group| group.number == own.number)
     }
 
     pub(crate) fn tcgetpgrp(&self) -> Option<Group>
@@ -44,10 +45,16 @@ impl Device {
         self.settings
     }
 
-    pub(crate) fn tcsetpgrp(&mut self, caller: &Process, group: Group) -> Result<(), Fault>
-        ensures { (result, tty_of caller.now self.new) ≡ Posix.tcsetpgrp group.number (tty_of caller.now self.old) }
+    pub(crate) fn tcsetpgrp(
+        &mut self,
+        own: Group,
+        disposition: Disposition,
+        group: Group,
+    ) -> Result<(), Fault>
+        ensures { let tty = tty_of own disposition in
+            (result, tty self.new) ≡ Posix.tcsetpgrp group.number (tty self.old) }
     {
-        if self.stops(caller) {
+        if self.stops(own, disposition) {
             return Err(Fault::INTERRUPTED);
         }
         if !self.session.has(group) {
@@ -57,10 +64,16 @@ impl Device {
         Ok(())
     }
 
-    pub(crate) fn tcsetattr(&mut self, caller: &Process, settings: u32) -> Result<(), Fault>
-        ensures { (result, tty_of caller.now self.new) ≡ Posix.tcsetattr settings (tty_of caller.now self.old) }
+    pub(crate) fn tcsetattr(
+        &mut self,
+        own: Group,
+        disposition: Disposition,
+        settings: u32,
+    ) -> Result<(), Fault>
+        ensures { let tty = tty_of own disposition in
+            (result, tty self.new) ≡ Posix.tcsetattr settings (tty self.old) }
     {
-        if self.stops(caller) {
+        if self.stops(own, disposition) {
             return Err(Fault::INTERRUPTED);
         }
         self.settings = settings;
@@ -69,7 +82,7 @@ impl Device {
 
     // Sends signal 18 to a group (`killpg` with SIGCONT).
     pub(crate) fn continue_group(&self, group: Group) -> Result<(), Fault>
-        ensures { result ≡ Posix.continued group.number self.now.session.places }
+        ensures { result ≡ Posix.continue_group group.number self.now.session.places }
     {
         if !self.session.has_process(group) {
             return Err(NO_PROCESS);

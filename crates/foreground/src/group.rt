@@ -20,7 +20,9 @@ impl TryFrom<u32> for Group {
 
     ghost use Rattle.foreground.specs.Group.{IsGroup};
 
-    ghost try_from_gives = { λ number r. MatchResult r (λ group. group.number ≡ number) (λ error. ¬ IsGroup number × (error.number ≡ number)) };
+    ghost try_from_gives = { λ number r. MatchResult r
+        (λ group. group.number ≡ number)
+        (λ error. ¬ IsGroup number × (error.number ≡ number)) };
 
     fn try_from(number: u32) -> Result<Group, NoGroup> {
         match number {

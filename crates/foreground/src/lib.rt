@@ -4,7 +4,7 @@
 pub mod absent;
 mod console;
 mod device;
+pub mod disposition;
 pub mod group;
-pub mod process;
 pub mod session;
 pub mod simulated;

@@ -13,24 +13,6 @@ pub struct Member {
     pub empty: bool,
 }
 
-impl Member {
-    ghost use Rattle.foreground.specs.Session.{lives, stands};
-
-    // Whether it is this group.
-    fn is(self, group: Group) -> bool
-        ensures { result ≡ stands group.number (Some self) }
-    {
-        self.group.number == group.number
-    }
-
-    // Whether it is this group, and isn't empty.
-    fn lives(self, group: Group) -> bool
-        ensures { result ≡ lives group.number (Some self) }
-    {
-        self.is(group) && !self.empty
-    }
-}
-
 // A number that no place has.
 #[derive(Clone, Copy, Debug, PartialEq, Eq)]
 pub struct NoPlace {
@@ -43,8 +25,8 @@ pub(crate) struct Session {
 }
 
 impl Session {
-    ghost use Rattle.std.specs.Prelude.{nat_lt, if◌then◌else◌, replicate, slice_set};
-    ghost use Rattle.foreground.specs.Session.{in_session, has_process};
+    ghost use Rattle.std.specs.Prelude.{replicate};
+    ghost use Rattle.foreground.specs.Session.{has_process, is_in_session, put};
 
     pub(crate) fn new() -> Self
         ensures { result.places ≡ replicate 16 None }
@@ -56,25 +38,24 @@ impl Session {
 
     // Whether the group stands in one of the places.
     pub(crate) fn has(&self, group: Group) -> bool
-        ensures { result ≡ in_session group.number self.now.places }
+        ensures { result ≡ is_in_session group.number self.now.places }
     {
-        self.places
-            .iter()
-            .any(|place| place.is_some_and(|member| member.is(group)))
+        self.places.iter().any(|place| {
+            place.is_some_and(|member| member.group.number == group.number)
+        })
     }
 
     // Whether the group stands in one of the places, and isn't empty there.
     pub(crate) fn has_process(&self, group: Group) -> bool
         ensures { result ≡ has_process group.number self.now.places }
     {
-        self.places
-            .iter()
-            .any(|place| place.is_some_and(|member| member.lives(group)))
+        self.places.iter().any(|place| {
+            place.is_some_and(|member| member.group.number == group.number && !member.empty)
+        })
     }
 
     pub(crate) fn put(&mut self, place: usize, member: Option<Member>) -> Result<(), NoPlace>
-        ensures answer { result ≡ (if nat_lt place 16 then Ok tt else Err (record { place = place })) }
-        ensures after { self.new.places ≡ (if nat_lt place 16 then slice_set self.old.places place member else self.old.places) }
+        ensures { (result, self.new.places) ≡ put place member self.old.places }
     {
         if place >= PLACES {
             return Err(NoPlace { place });

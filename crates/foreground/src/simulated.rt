@@ -1,17 +1,18 @@
 // The simulated terminal: a terminal's values, on which POSIX's calls are made.
-ghost use Rattle.std.specs.Prelude.{◌≡◌, ◌≢◌, true, if◌then◌else◌, is_some, nat_lt, slice_set, unwrap_or};
+ghost use Rattle.std.specs.Prelude.{◌≡◌, ◌≢◌, true, is_some, unwrap_or};
+ghost use Rattle.std.specs.Option.{option_map};
 ghost use Rattle.host.specs.Calls as Calls;
 ghost use Rattle.host.specs.Fault.{fault};
-ghost use Rattle.std.specs.Option.{option_map};
-ghost use Rattle.foreground.specs.Session.{in_session};
+ghost use Rattle.foreground.specs.Moves.{TakesBack};
+ghost use Rattle.foreground.specs.Session.{put};
 ghost use Rattle.foreground.specs.View.{number};
-ghost use Rattle.foreground.specs.Simulated.{Did, book_of, counted, fresh, view};
+ghost use Rattle.foreground.specs.Simulated.{Did, book_of, count_call, fresh_terminal, view};
 ghost use Rattle.foreground.specs.SimulatedBook;
 
 use crate::console::Console;
 use crate::device::{Device, NOT_PERMITTED};
+use crate::disposition::{Disposition, Handling};
 use crate::group::Group;
-use crate::process::{Handling, Process};
 use crate::session::{Member, NoPlace, Session};
 use host::fault::Fault;
 use host::terminal::Terminal;
@@ -31,12 +32,12 @@ pub struct SimulatedTerminal {
 impl SimulatedTerminal {
     // The terminal of a supervisor whose process is in this group.
     pub fn new(own: Group) -> Self
-        ensures { view result ≡ fresh own.number }
+        ensures { view result ≡ fresh_terminal own.number }
     {
         SimulatedTerminal {
             console: Console {
-                process: Process {
-                    group: own,
+                own,
+                disposition: Disposition {
                     handling: Handling::Default,
                 },
                 device: Device {
@@ -51,37 +52,36 @@ impl SimulatedTerminal {
     }
 
     pub fn set_foreground(&mut self, group: Option<Group>)
-        ensures { let s = view self.old in view self.new ≡ record s { tty = record s.tty { foreground = option_map number group } } }
+        ensures { let s = view self.old in
+            let tty = record s.tty { foreground = option_map number group } in
+            view self.new ≡ record s { tty = tty } }
     {
         self.console.device.foreground = group;
     }
 
     pub fn set_settings(&mut self, settings: u32)
-        ensures { let s = view self.old in view self.new ≡ record s { tty = record s.tty { settings = settings } } }
+        ensures { let s = view self.old in
+            view self.new ≡ record s { tty = record s.tty { settings = settings } } }
     {
         self.console.device.settings = settings;
     }
 
     // Puts a group into a place of the session, or none; there are sixteen places, from 0 on.
     pub fn set_place(&mut self, place: usize, member: Option<Member>) -> Result<(), NoPlace>
-        ensures answer { result ≡ (if nat_lt place 16 then Ok tt else Err (record { place = place })) }
-        ensures after { let s = view self.old in view self.new ≡ record s { tty = record s.tty { groups = if nat_lt place 16 then slice_set s.tty.groups place member else s.tty.groups } } }
+        ensures answer { result ≡ (put place member (view self.old).tty.groups).0 }
+        ensures after { let s = view self.old in
+            let tty = record s.tty { groups = (put place member s.tty.groups).1 } in
+            view self.new ≡ record s { tty = tty } }
     {
         self.console.device.session.put(place, member)
     }
 
     // What the supervisor's process does with signal 22.
     pub fn set_handling(&mut self, handling: Handling)
-        ensures { let s = view self.old in view self.new ≡ record s { tty = record s.tty { handling = handling } } }
+        ensures { let s = view self.old in
+            view self.new ≡ record s { tty = record s.tty { handling = handling } } }
     {
-        self.console.process.handling = handling;
-    }
-
-    // The settings that the open grant will restore; with none, no grant is open.
-    pub fn set_saved(&mut self, saved: Option<u32>)
-        ensures { view self.new ≡ record (view self.old) { saved = saved } }
-    {
-        self.saved = saved;
+        self.console.disposition.handling = handling;
     }
 }
 
@@ -90,12 +90,12 @@ impl Terminal for SimulatedTerminal {
 
     ghost did = { Did };
 
-    ghost keeps = { SimulatedBook.keeps_so };
+    ghost keeps = { SimulatedBook.keeps_book };
 
     ghost sound = { SimulatedBook.sound };
 
     fn own_group(&self) -> u32 {
-        self.console.process.group.number
+        self.console.own.number
     }
 
     fn owner(&mut self) -> Option<u32> {
@@ -110,8 +110,8 @@ impl Terminal for SimulatedTerminal {
         ensures same_handling { (view self.new).tty.handling ≡ (view self.old).tty.handling }
         ensures same_settings { (view self.new).tty.settings ≡ (view self.old).tty.settings }
         ensures never_stopped { result ≢ Err (fault 4) }
-        ensures outside { result ≡ Err (fault 1) → view self.new ≡ counted (view self.old) }
-        ensures empty { let t = (view self.old).tty in result ≡ Err (fault 3) → in_session t.own t.groups ≡ true → (view self.new).tty.foreground ≡ Some t.own }
+        ensures outside { result ≡ Err (fault 1) → view self.new ≡ count_call (view self.old) }
+        ensures empty { result ≡ Err (fault 3) → TakesBack (view self.old).tty (view self.new).tty }
     {
         self.served += 1;
         if self.saved.is_some() {
@@ -131,9 +131,11 @@ impl Terminal for SimulatedTerminal {
     fn release(&mut self)
         ensures did { Did self.old Calls.release result self.new }
         ensures same_handling { (view self.new).tty.handling ≡ (view self.old).tty.handling }
-        ensures settings { (view self.new).tty.settings ≡ unwrap_or (view self.old).saved (view self.old).tty.settings }
+        ensures settings { let s = view self.old in
+            (view self.new).tty.settings ≡ unwrap_or s.saved s.tty.settings }
         ensures closed { (view self.new).saved ≡ None }
-        ensures foreground { let t = (view self.old).tty in is_some (view self.old).saved ≡ true → in_session t.own t.groups ≡ true → (view self.new).tty.foreground ≡ Some t.own }
+        ensures foreground { let s = view self.old in
+            is_some s.saved ≡ true → TakesBack s.tty (view self.new).tty }
     {
         self.served += 1;
         if let Some(settings) = self.saved.take() {

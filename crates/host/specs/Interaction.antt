@@ -29,7 +29,10 @@ pub record World (H T : Type 0) : Type 0 where
   pub host : H
   pub terminal : T
 
+abbrev pub world : {H T : Type 0} → H → T → World H T
+world host terminal = record { host = host; terminal = terminal }
+
 -- a call is answered as the host or the terminal answers it, and leaves the other as it is
-abbrev pub Answered : {H T : Type 0} (by_host : Host.Ghosts H) (by_terminal : Terminal.Ghosts T) → World H T → (c : Call) → Reply c → World H T → Type 0
-Answered by_host by_terminal w (to_host c) a v = by_host.did w.host c a v.host × (v.terminal ≡ w.terminal)
-Answered by_host by_terminal w (to_terminal c) a v = by_terminal.did w.terminal c a v.terminal × (v.host ≡ w.host)
+abbrev pub IsAnswered : {H T : Type 0} (by_host : Host.Ghosts H) (by_terminal : Terminal.Ghosts T) → World H T → (c : Call) → Reply c → World H T → Type 0
+IsAnswered by_host by_terminal w (to_host c) a v = by_host.did w.host c a v.host × (v.terminal ≡ w.terminal)
+IsAnswered by_host by_terminal w (to_terminal c) a v = by_terminal.did w.terminal c a v.terminal × (v.host ≡ w.host)

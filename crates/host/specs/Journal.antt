@@ -1,5 +1,6 @@
 -- The journal: the record of a call, and the numbers that records are written with.
-use Rattle.std.specs.Prelude.{ℕ, ◌+◌, List, map, ℤ, pos, neg_ℤ, Ok, Err, Option, Result, ⊤}
+use Rattle.std.specs.Prelude.{ℕ, ◌+◌, Bool, true, false, ◌&&◌, ◌||◌, List, map, ℤ, pos, neg_ℤ, Ok, Err, Option, Result, ⊤}
+use Rattle.std.specs.List.{count_by}
 use Rattle.std.specs.Option.{option_map_or}
 use Rattle.host.specs.declared.fault.Fault.{Fault}
 use Rattle.host.specs.declared.state.ProcessEnd.TheVariants.{Exited, Signalled, Continued}
@@ -49,29 +50,29 @@ or_fault f (Err fault) = Answers.Fault fault
 abbrev pub or_nothing : {A : Type 0} → (A → Answer) → Option A → Answer
 or_nothing f o = option_map_or f o Nothing
 
-abbrev pub nothing : ⊤ → Answer
-nothing u = Nothing
+abbrev pub no_value : ⊤ → Answer
+no_value u = Nothing
 
-abbrev pub entry : CallKind → ℕ → ℕ → Answer → Record
-entry kind child number answer = record { call = kind; child = child; number = number; answer = answer }
+abbrev pub journal_record : CallKind → ℕ → ℕ → Answer → Record
+journal_record kind child number answer = record { call = kind; child = child; number = number; answer = answer }
 
 -- the record of a call: its child (0 where it names none), its number (0 where it has none) and its answer
 abbrev pub host_record : (c : HostCall) → HostReply c → Record
-host_record (spawn program options way time) a = entry Spawn 0 way (or_fault Child a)
-host_record (poll n) a = entry Poll n 0 (or_fault (or_nothing End) a)
-host_record (wait n) a = entry Wait n 0 (or_fault End a)
-host_record (kill n) a = entry Kill n 0 (or_fault nothing a)
-host_record (signal n s) a = entry Signal n s (or_fault nothing a)
-host_record (cont n) a = entry Cont n 0 (or_fault nothing a)
-host_record (let_go n) a = entry LetGo n 0 Nothing
-host_record (hook n state previous) a = entry Hook 0 n (or_fault Options a)
-host_record (routine n state previous) a = entry Routine 0 n (or_fault nothing a)
-host_record (tell handler told) a = entry Tell 0 told.code (or_fault nothing a)
+host_record (spawn program options way time) a = journal_record Spawn 0 way (or_fault Child a)
+host_record (poll n) a = journal_record Poll n 0 (or_fault (or_nothing End) a)
+host_record (wait n) a = journal_record Wait n 0 (or_fault End a)
+host_record (kill n) a = journal_record Kill n 0 (or_fault no_value a)
+host_record (signal n s) a = journal_record Signal n s (or_fault no_value a)
+host_record (cont n) a = journal_record Cont n 0 (or_fault no_value a)
+host_record (let_go n) a = journal_record LetGo n 0 Nothing
+host_record (hook n state previous) a = journal_record Hook 0 n (or_fault Options a)
+host_record (routine n state previous) a = journal_record Routine 0 n (or_fault no_value a)
+host_record (tell handler told) a = journal_record Tell 0 told.code (or_fault no_value a)
 
 abbrev pub terminal_record : (c : TerminalCall) → TerminalReply c → Record
-terminal_record owner a = entry Owner 0 0 (or_nothing Group a)
-terminal_record (acquire group) a = entry Acquire 0 group (or_fault nothing a)
-terminal_record release a = entry Release 0 0 Nothing
+terminal_record owner a = journal_record Owner 0 0 (or_nothing Group a)
+terminal_record (acquire group) a = journal_record Acquire 0 group (or_fault no_value a)
+terminal_record release a = journal_record Release 0 0 Nothing
 
 abbrev pub record_of : (c : Call) → Reply c → Record
 record_of (to_host c) a = host_record c a
@@ -83,3 +84,43 @@ event_record e = record_of e.0 e.1
 
 abbrev pub journal : List Event → List Record
 journal p = map event_record p
+
+-- QUESTIONS OF A RECORD
+
+abbrev pub is_spawn : CallKind → Bool
+is_spawn Spawn = true
+is_spawn kind = false
+
+-- the calls that end a child by force
+abbrev pub is_force : CallKind → Bool
+is_force Kill = true
+is_force Wait = true
+is_force kind = false
+
+abbrev pub is_poll : CallKind → Bool
+is_poll Poll = true
+is_poll kind = false
+
+abbrev pub is_fault : Answer → Bool
+is_fault (Answers.Fault f) = true
+is_fault answer = false
+
+abbrev pub is_end : Answer → Bool
+is_end (End e) = true
+is_end answer = false
+
+-- a kill, a wait or a spawn
+abbrev pub is_decisive : Record → Bool
+is_decisive r = is_force r.call || is_spawn r.call
+
+-- a kill or a wait that faulted
+abbrev pub is_failure : Record → Bool
+is_failure r = is_force r.call && is_fault r.answer
+
+-- a poll that reported an end
+abbrev pub reports_end : Record → Bool
+reports_end r = is_poll r.call && is_end r.answer
+
+-- the spawns among records
+abbrev pub spawns_among : List Record → ℕ
+spawns_among rs = count_by (λ r. is_spawn r.call) rs

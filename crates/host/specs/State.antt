@@ -17,6 +17,6 @@ is_finished (Finished end started finished) = true
 is_finished state = false
 
 -- a run that still goes is kept as ended by Continued at this time
-abbrev pub kept : ℕ → CommandState → CommandState
-kept time (Running child started) = Finished Continued started time
-kept time state = state
+abbrev pub kept_run : ℕ → CommandState → CommandState
+kept_run time (Running child started) = Finished Continued started time
+kept_run time state = state

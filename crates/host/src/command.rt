@@ -51,7 +51,8 @@ impl From<SpawnOptions> for u8 {
 impl TryFrom<u8> for SpawnOptions {
     type Error = NoSum;
 
-    ghost try_from_gives = { λ sum r. MatchResult r (λ options. Options.options_of sum ≡ Some options) (λ error. (Options.options_of sum ≡ None) × (error.number ≡ sum)) };
+    ghost try_from_gives = { λ sum r. MatchResult r (λ options. Options.options_of sum
+        ≡ Some options) (λ error. (Options.options_of sum ≡ None) × (error.number ≡ sum)) };
 
     fn try_from(sum: u8) -> Result<SpawnOptions, NoSum> {
         if sum > 15 {

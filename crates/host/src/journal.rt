@@ -1,6 +1,6 @@
 // The journal: one record for each call that a step makes.
 ghost use Rattle.std.specs.Prelude.{◌≡◌};
-ghost use Rattle.host.specs.Journal.{call_number, answer_number, nothing, or_fault};
+ghost use Rattle.host.specs.Journal.{call_number, answer_number, no_value, or_fault};
 
 use crate::command::SpawnOptions;
 use crate::fault::Fault;
@@ -46,7 +46,7 @@ pub enum Answer {
 
 // What a call was answered that answers nothing, or faults.
 impl From<Result<(), Fault>> for Answer {
-    ghost from_gives = { λ reply answer. answer ≡ or_fault nothing reply };
+    ghost from_gives = { λ reply answer. answer ≡ or_fault no_value reply };
 
     fn from(reply: Result<(), Fault>) -> Answer {
         reply.map_or_else(Answer::Fault, |()| Answer::Nothing)

@@ -1,5 +1,6 @@
 // The host of a job's child processes.
-ghost use Rattle.std.specs.Prelude.{◌≡◌, ℕ, ◌≤◌, length, nat_le};
+ghost use Rattle.std.specs.Prelude.{◌≡◌, ℕ, ◌≤◌, nat_le};
+ghost use Rattle.std.specs.FinSet as set;
 ghost use Rattle.host.specs.Calls.{HostCall, HostReply};
 ghost use Rattle.host.specs.Calls as Calls;
 ghost use Rattle.host.specs.Books.{HostBook, HostKeeps};
@@ -22,7 +23,7 @@ pub trait Host {
 
     // Whether the roster is full; not counted as a call.
     fn is_full(&self) -> bool
-        ensures { result ≡ nat_le MOST (length (book self.now).roster) };
+        ensures { result ≡ nat_le MOST (set.len (book self.now).roster) };
 
     // The options may be a hook's, so they come beside the program: a `Command` is what a job manages.
     fn spawn(
@@ -73,7 +74,8 @@ pub trait Host {
     fn tell(&mut self, handler: u8, fault: Fault) -> Result<(), Fault>
         ensures { did self.old (Calls.tell handler fault) result self.new };
 
-    ghost keeps: { (h : Self) (c : HostCall) (a : HostReply c) (k : Self) → did h c a k → HostKeeps MOST (book h) c a (book k) };
+    ghost keeps: { (h : Self) (c : HostCall) (a : HostReply c) (k : Self)
+        → did h c a k → HostKeeps MOST (book h) c a (book k) };
 
-    ghost bounded: { (h : Self) → length (book h).roster ≤ MOST };
+    ghost bounded: { (h : Self) → set.len (book h).roster ≤ MOST };
 }

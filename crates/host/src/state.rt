@@ -49,7 +49,7 @@ impl CommandState {
     // Makes the state Pending, and answers what is kept of the run that was: a finished one as it is,
     // one that still runs as ended by Continued at this time.
     pub fn reset(&mut self, time: u64) -> CommandState
-        ensures kept { result ≡ State.kept time self.old }
+        ensures kept { result ≡ State.kept_run time self.old }
         ensures after { self.new ≡ CommandState.Pending }
     {
         let kept = match *self {

@@ -28,7 +28,8 @@ pub trait Terminal {
     fn release(&mut self)
         ensures { did self.old Calls.release tt self.new };
 
-    ghost keeps: { (t : Self) (c : TerminalCall) (a : TerminalReply c) (u : Self) → did t c a u → TerminalKeeps (book t) c a (book u) };
+    ghost keeps: { (t : Self) (c : TerminalCall) (a : TerminalReply c) (u : Self)
+        → did t c a u → TerminalKeeps (book t) c a (book u) };
 
     ghost sound: { (t : Self) → IsTerminal (book t) };
 }

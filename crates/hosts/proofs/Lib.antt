@@ -1,3 +1,2 @@
--- What is shown of the children of the simulated host, and of signal 0.
+-- What is shown of the children of the simulated host.
 pub mod Places
-pub mod Null

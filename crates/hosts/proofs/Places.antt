@@ -1,30 +1,32 @@
--- What a child's life, its removal and a new life are, by the place of the child in the list.
-use Rattle.std.proofs.Common.{◌≡◌, ℕ, ◌+◌, ◌≤◌, ◌==◌, List, [], ◌∷◌, get_or, slice_set, length, Some, one-add, refl, arith}
+-- What a new life of a child changes, by the place of the child in the list.
+use Rattle.std.proofs.Common.{◌≡◌, ◌≢◌, ℕ, ◌<◌, ◌==◌, List, [], ◌∷◌, All, AllPairs, get_or, length-set, slice_set, Some, one-add, refl, arith}
 use Rattle.std.proofs.lemmas.Bool.Decides.{nat_tests}
-use Rattle.std.specs.List.{remove, position_or_len}
-use Rattle.hosts.specs.declared.children.Life.{Life}
-use Rattle.hosts.specs.declared.children.Child.{Child}
-use Rattle.hosts.specs.Children.{child, life_of, without, with_life}
+use Rattle.std.proofs.lemmas.Grind.{elements}
+use Rattle.std.proofs.lemmas.List.Quantifiers.{position-Some}
+use Rattle.std.specs.List.{position, position_or_len}
+use Rattle.arrayvec.specs.ArrayVec.{ArrayVec, with_items}
+use Rattle.arrayvec.proofs.ArrayVecLemmas.{items-with_items}
+use Rattle.hosts.specs.declared.child.Life.{Life}
+use Rattle.hosts.specs.declared.child.Child.{Child}
+use Rattle.hosts.specs.Children.{child, with_life}
 
--- the first place of a child with the number n; past the end where there is none
-abbrev pub place : ℕ → List Child → ℕ
-place n cs = position_or_len (λ c. n == c.number) cs
+pub with_life-set : (n : ℕ) (life : Life) (cs : List Child) → with_life n life cs ≡ slice_set cs (position_or_len (λ c. n == c.number) cs) (child n life)
+with_life-set n life [] = refl
+with_life-set n life (c ∷ cs) = grind (arith, nat_tests, one-add, with_life-set n life cs)
 
-pub without-remove : (n : ℕ) (cs : List Child) → without n cs ≡ remove cs (place n cs)
-without-remove n [] = refl
-without-remove n (c ∷ cs) =
-    let step : remove (c ∷ cs) (1 + place n cs) ≡ c ∷ remove cs (place n cs) = rw one-add refl in
-    grind (arith, nat_tests, step, without-remove n cs)
+-- the numbers stay as they are, once a child was written to the place of the one with its number
+module _ (v : ArrayVec Child) (n at : ℕ) (life : Life) (found : position (λ c. n == c.number) v.items ≡ Some at) where
+  abbrev after : List Child
+  after = (with_items v (slice_set v.items at (child n life))).items
 
-pub with_life-set : (n : ℕ) (life : Life) (cs : List Child) (d : Child) → with_life n life cs ≡ slice_set cs (place n cs) (child (get_or cs (place n cs) d).number life)
-with_life-set n life [] d = refl
-with_life-set n life (c ∷ cs) d = grind (arith, nat_tests, one-add, with_life-set n life cs d)
+  after-set : after ≡ slice_set v.items at (child n life)
+  after-set = items-with_items v _ (length-set _ _ _)
 
-pub with_life_past : (n : ℕ) (life : Life) (cs : List Child) → length cs ≤ place n cs → with_life n life cs ≡ cs
-with_life_past n life [] h = refl
-with_life_past n life (c ∷ cs) h = grind (arith, nat_tests, one-add, with_life_past n life cs)
+  number : (k : ℕ) (d : Child) → (get_or after k d).number ≡ (get_or v.items k d).number
+  number k d = rw after-set (grind (arith, nat_tests, elements, position-Some (λ c. n == c.number) v.items at d found))
 
--- nothing changes where a child is given the life that it has
-pub same_life : (n : ℕ) (life : Life) (cs : List Child) → life_of n cs ≡ Some life → with_life n life cs ≡ cs
-same_life n life [] e = refl
-same_life n life (c ∷ cs) e = grind (arith, nat_tests, same_life n life cs)
+  pub below : (next : ℕ) → All (λ c. c.number < next) v.items → All (λ c. c.number < next) after
+  below next h = λ k d l. grind (arith, length-set, after-set, number k d, h k d)
+
+  pub distinct : AllPairs (λ c d. c.number ≢ d.number) v.items → AllPairs (λ c d. c.number ≢ d.number) after
+  distinct h = λ i j d l m. grind (arith, length-set, after-set, number i d, number j d, h i j d)

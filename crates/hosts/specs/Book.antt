@@ -1,134 +1,78 @@
 -- The book of the simulated host keeps its rules.
-use Rattle.std.specs.Prelude.{◌≡◌, ℕ, suc, ◌^◌, ◌<◌, ◌≤◌, Bool, true, false, if◌then◌else◌, List, [], ◌∷◌, ◌++◌, length, is_some, Some, None, Ok, Err, Option, Result, nat_le, refl, ⊤}
-use Rattle.std.proofs.Common.{ap, ◌∙◌, arith}
+use Rattle.std.specs.Prelude.{◌≡◌, ℕ, ◌≤◌, Bool, true, false, if◌then◌else◌, List, [], ◌∷◌, ◌++◌, is_some, Some, None, Ok, Err, Option, refl}
+use Rattle.std.proofs.Common.{arith}
+use Rattle.std.specs.FinSet as set
 use Rattle.std.proofs.lemmas.Bool.Decides.{nat_tests}
-use Rattle.std.proofs.lemmas.List.{map-append, length-map}
-use Rattle.std.proofs.lemmas.Bool.{cond_both}
 use Rattle.host.specs.Fault.{fault}
-use Rattle.host.specs.declared.fault.Fault.{Fault}
 use Rattle.host.specs.declared.command.SpawnOptions.{SpawnOptions}
 use Rattle.host.specs.Calls.{HostCall, spawn, poll, wait, kill, signal, cont, let_go, hook, routine, tell, HostReply}
-use Rattle.host.specs.Books.{HostFits, HostKeeps, IsEnd, IsFault, MayFault, next_count, on_roster, roster_after, spawns_after, strike}
-use Rattle.hosts.specs.declared.children.End.{End}
-use Rattle.hosts.specs.declared.children.End.TheVariants.{Exited, Signalled}
-use Rattle.hosts.specs.declared.children.Life.{Life}
-use Rattle.hosts.specs.declared.children.Life.TheVariants.{Going, Ended}
-use Rattle.hosts.specs.declared.children.Child.{Child}
-use Rattle.hosts.specs.Children.{child, numbers, life_of, without, with_life, reported, has_room, AreFit, AreNumbered, is_fit, process_end}
-use Rattle.hosts.specs.Signals.{delivered}
-use Rattle.hosts.specs.Simulated.{Sim, book_of, answer, after, children_after, poll_answer, wait_answer, signal_answer, signalled}
+use Rattle.host.specs.Books.{HostFits, HostKeeps, Roster, is_on_roster, roster_after}
+use Rattle.hosts.specs.declared.child.Life.{Life}
+use Rattle.hosts.specs.declared.child.Life.TheVariants.{Going, Ended}
+use Rattle.hosts.specs.declared.child.Child.{Child}
+use Rattle.hosts.specs.declared.simulated.SimulatedHost.{SimulatedHost}
+use Rattle.hosts.specs.Children.{after_report, child, has_room, items, roster_of}
+use Rattle.hosts.specs.Rosters.{is_on_roster-roster_of, len_of_roster, off_roster, roster_of-push, roster_of-with_life, roster_of-without}
+use Rattle.hosts.specs.Signals.{deliver}
+use Rattle.hosts.specs.Simulated.{AnswersEnd, HostView, answer, book_of, children_after, poll_answer, send_signal, signal_answer, state_after, view, wait_answer}
 
--- THE ROSTER OF A LIST OF CHILDREN
-
--- who has a life is on the roster
-on_is_some : (n : ℕ) (cs : List Child) → on_roster n (numbers cs) ≡ is_some (life_of n cs)
-on_is_some n [] = refl
-on_is_some n (c ∷ cs) = grind (arith, on_is_some n cs)
-
-numbers-without : (n : ℕ) (cs : List Child) → numbers (without n cs) ≡ strike n (numbers cs)
-numbers-without n [] = refl
-numbers-without n (c ∷ cs) = grind (arith, numbers-without n cs)
-
-numbers-with_life : (n : ℕ) (life : Life) (cs : List Child) → numbers (with_life n life cs) ≡ numbers cs
-numbers-with_life n life [] = refl
-numbers-with_life n life (c ∷ cs) = grind (arith, nat_tests, numbers-with_life n life cs)
-
--- the next number is off the roster
-next_is_off : (next : ℕ) (cs : List Child) → AreNumbered next cs → on_roster next (numbers cs) ≡ false
-next_is_off next [] h = refl
-next_is_off next (c ∷ cs) h =
-    let below : c.number < next = h 0 c (omega arith) in
-    grind (arith, nat_tests, below, next_is_off next cs (λ k d l. h (suc k) d (omega arith)))
-
--- who is there and has ended did so as a process may
-ends : (n : ℕ) (cs : List Child) (end : End) → AreFit cs → life_of n cs ≡ Some (Ended end) → is_fit (Ended end) ≡ true
-ends n [] end h e = absurd (grind arith)
-ends n (c ∷ cs) end h e =
-    let first : is_fit c.life ≡ true = h 0 c (omega arith) in
-    let rest : AreFit cs = λ k d l. h (suc k) d (omega arith) in
-    grind (arith, nat_tests, first, ends n cs end rest)
-
-end_fits : (end : End) → is_fit (Ended end) ≡ true → IsEnd (process_end end)
-end_fits (Exited code) h = grind (arith, nat_tests)
-end_fits (Signalled s) h = grind (arith, nat_tests)
-
--- as many numbers as children
-pub bounded : (cs : List Child) → length cs ≤ 16 → length (numbers cs) ≤ 16
-bounded cs few = simp length-map few
+pub bounded : (h : SimulatedHost) → set.len (book_of (view h)).roster ≤ 16
+bounded h = rw (len_of_roster (items h.children) h.children.distinct) h.children.few
 
 -- THE RULES
 
-module _ (s : Sim) (begun : 100 ≤ s.next) (numbered : AreNumbered s.next s.children) (fit : AreFit s.children) where
-  -- its children, and their numbers
-  abbrev cs : List Child
-  cs = s.children
+module _ (h : SimulatedHost) where
+  abbrev s : HostView
+  s = view h
 
-  abbrev roster : List ℕ
-  roster = numbers cs
+  abbrev roster : Roster
+  roster = roster_of s.children
 
   -- a call answered so moves the roster as it leaves the children, and the answer fits
-  abbrev Rules : (c : HostCall) → HostReply c → List Child → Type 0
-  Rules c a after-it = (numbers after-it ≡ roster_after roster c a) × HostFits 16 roster c a
+  abbrev KeepsRules : (c : HostCall) → HostReply c → List Child → Type 0
+  KeepsRules c a cs = (roster_of cs ≡ roster_after roster c a) × HostFits 16 roster c a
 
-  -- who has a life is on the roster
-  on : (n : ℕ) (life : Life) → life_of n cs ≡ Some life → on_roster n roster ≡ true
-  on n life e = on_is_some n cs ∙ ap is_some e
+  rules-spawn : (program : ℕ) (options : SpawnOptions) (way time : ℕ) (b : Bool) → has_room s.next s.children ≡ b
+      → KeepsRules (spawn program options way time) (if b then Ok s.next else Err (fault 11)) (if b then s.children ++ child s.next Going ∷ [] else s.children)
+  rules-spawn program options way time true e =
+      let new = off_roster s.next s.children (λ k c l e. omega (arith, h.children.below k c l)) in
+      grind (arith, nat_tests, new, roster_of-push s.children (child s.next Going), h.children.begun, len_of_roster s.children h.children.distinct)
+  rules-spawn program options way time false e = grind arith
 
-  -- off the roster, the fault is 10
-  off : (n : ℕ) → MayFault n roster (fault 10)
-  off n = ((omega arith, omega arith), λ _. refl)
+  -- a call about the child n, by its life
 
-  -- on the roster, it may be any
-  on_faults : (n code : ℕ) (life : Life) → life_of n cs ≡ Some life → IsFault (fault code) → MayFault n roster (fault code)
-  on_faults n code life e h = (h, λ o. cc (on n life e))
+  rules-poll : (n : ℕ) (o : Option Life) → is_on_roster n roster ≡ is_some o → AnswersEnd (poll n) (poll_answer o)
+      → KeepsRules (poll n) (poll_answer o) (after_report n o s.children)
+  rules-poll n None here end = grind arith
+  rules-poll n (Some (Ended end)) here fits = (roster_of-without n s.children, (here, fits))
+  rules-poll n (Some life) here end = grind arith
 
-  -- who has ended is on the roster, and ended as a process may
-  ended : (n : ℕ) (end : End) → life_of n cs ≡ Some (Ended end) → (on_roster n roster ≡ true) × IsEnd (process_end end)
-  ended n end e = (on n (Ended end) e, end_fits end (ends n cs end fit e))
+  rules-wait : (n : ℕ) (o : Option Life) → is_on_roster n roster ≡ is_some o → AnswersEnd (wait n) (wait_answer o)
+      → KeepsRules (wait n) (wait_answer o) (after_report n o s.children)
+  rules-wait n None here end = grind arith
+  rules-wait n (Some (Ended end)) here fits = (roster_of-without n s.children, (here, fits))
+  rules-wait n (Some life) here end = grind arith
 
-  spawned : (program : ℕ) (options : SpawnOptions) (way time : ℕ) (b : Bool) → has_room s.next cs ≡ b → Rules (spawn program options way time) (if b then Ok s.next else Err (fault 11)) (if b then cs ++ child s.next Going ∷ [] else cs)
-  spawned program options way time true e =
-      let room : (length cs < 16) × (s.next < 2 ^ 31) = grind (arith, nat_tests) in
-      (map-append _ cs (child s.next Going ∷ []), (next_is_off s.next cs numbered, omega arith, room.1, omega (arith, room.0, length-map cs (λ c. c.number))))
-  spawned program options way time false e = (refl, ((omega arith, omega arith), λ _. refl))
+  rules-signal : (n number : ℕ) (o : Option Life) → is_on_roster n roster ≡ is_some o
+      → KeepsRules (signal n number) (signal_answer number o) (send_signal s.mask number n o s.children)
+  rules-signal n number None here = grind arith
+  rules-signal n number (Some life) here = grind (arith, roster_of-with_life n (deliver s.mask number life) s.children)
 
-  polled : (n : ℕ) (o : Option Life) → life_of n cs ≡ o → Rules (poll n) (poll_answer o) (reported n o cs)
-  polled n None e = (refl, off n)
-  polled n (Some (Ended end)) e = (numbers-without n cs, ended n end e)
-  polled n (Some life) e = (refl, on n life e)
-
-  waited : (n : ℕ) (o : Option Life) → life_of n cs ≡ o → Rules (wait n) (wait_answer o) (reported n o cs)
-  waited n None e = (refl, off n)
-  waited n (Some (Ended end)) e = (numbers-without n cs, ended n end e)
-  waited n (Some life) e = (refl, on_faults n 4 life e (omega arith, omega arith))
-
-  -- what holds of a fit fault, and of Ok where the child is on the roster, holds of the answer to a signal
-  sent : (P : Result ⊤ Fault → Type 0) → (n number : ℕ) (o : Option Life) → life_of n cs ≡ o → ((f : Fault) → MayFault n roster f → P (Err f)) → (on_roster n roster ≡ true → P (Ok tt)) → P (signal_answer number o)
-  sent P n number None e faults granted = faults (fault 10) (off n)
-  sent P n number (Some life) e faults granted = cond_both (nat_le number 31) (Ok tt) (Err (fault 22)) P (λ _. granted (on n life e)) (λ _. faults (fault 22) (on_faults n 22 life e (omega arith, omega arith)))
-
-  same_roster : (n number : ℕ) (o : Option Life) → numbers (signalled s.mask number n o cs) ≡ roster
-  same_roster n number None = refl
-  same_roster n number (Some life) = grind (arith, numbers-with_life n (delivered s.mask number life) cs)
-
-  rules : (c : HostCall) → Rules c (answer s c) (children_after s c)
-  rules (spawn program options way time) = spawned program options way time _ refl
-  rules (poll n) = polled n _ refl
-  rules (wait n) = waited n _ refl
-  rules (kill n) = (same_roster n 9 _, sent (HostFits 16 roster (kill n)) n 9 _ refl (λ _ h. h) (λ h. h))
-  rules (signal n number) = (same_roster n number _, sent (HostFits 16 roster (signal n number)) n number _ refl (λ _ h. h) (λ h. h))
-  rules (cont n) = (same_roster n 18 _, sent (HostFits 16 roster (cont n)) n 18 _ refl (λ _ h. h) (λ h. h))
-  rules (let_go n) = (numbers-without n cs, tt)
-  rules (hook number state previous) = (refl, tt)
-  rules (routine number state previous) = (refl, tt)
-  rules (tell handler code) = (refl, tt)
+  rules : (c : HostCall) → AnswersEnd c (answer s c) → KeepsRules c (answer s c) (children_after s c)
+  rules (spawn program options way time) end = rules-spawn program options way time _ refl
+  rules (poll n) end = rules-poll n _ (is_on_roster-roster_of n s.children) end
+  rules (wait n) end = rules-wait n _ (is_on_roster-roster_of n s.children) end
+  rules (kill n) end = rules-signal n 9 _ (is_on_roster-roster_of n s.children)
+  rules (signal n number) end = rules-signal n number _ (is_on_roster-roster_of n s.children)
+  rules (cont n) end = rules-signal n 18 _ (is_on_roster-roster_of n s.children)
+  rules (let_go n) end = (roster_of-without n s.children, tt)
+  rules (hook number state previous) end = (refl, tt)
+  rules (routine number state previous) end = (refl, tt)
+  rules (tell handler told) end = (refl, tt)
 
   -- each call, answered and moved so, keeps the rules of the book
-  pub keeps : (c : HostCall) → HostKeeps 16 (book_of s) c (answer s c) (book_of (after s c))
-  keeps c =
-      let r = rules c in
-      record { moved = ap (λ (ns : List ℕ). record { roster = ns; served = next_count s.served; spawns = spawns_after s.spawns c }) r.0; fits = r.1 }
-
-  -- said of the answer and of what the call left
-  pub keeps_so : (c : HostCall) (a : HostReply c) (t : Sim) → a ≡ answer s c → t ≡ after s c → HostKeeps 16 (book_of s) c a (book_of t)
-  keeps_so c a t answered moved = rw (answered, moved) (keeps c)
+  pub keeps_so : (c : HostCall) (a : HostReply c) (t : HostView) → (a ≡ answer s c) × (t ≡ state_after s c) × AnswersEnd c a
+      → HostKeeps 16 (book_of s) c a (book_of t)
+  keeps_so c a t did =
+      let r = rules c (rw did.0 at did.2) in
+      rw (did.0, did.1) (record { moved = cc (r.0); fits = r.1 })

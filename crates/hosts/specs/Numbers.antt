@@ -16,8 +16,8 @@ end_of n =
     else None
 
 -- 0 where the child goes on, or its end
-abbrev pub polled_of : ℕ → Option (Option ProcessEnd)
-polled_of n = if n == 0 then Some None else option_map Some (end_of n)
+abbrev pub poll_of : ℕ → Option (Option ProcessEnd)
+poll_of n = if n == 0 then Some None else option_map Some (end_of n)
 
 -- 0 where nothing is answered
 abbrev pub nothing_of : ℕ → Option ⊤

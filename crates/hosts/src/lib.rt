@@ -1,9 +1,9 @@
 // Hosts of a job's child processes.
 #![tactic(auto)]
 
+mod child;
 mod children;
 mod numbers;
 pub mod prepared;
-mod roster;
 mod signals;
 pub mod simulated;

@@ -1,23 +1,23 @@
 // What the numbers of prepared answers say.
 ghost use Rattle.std.specs.Prelude.{◌≡◌, ℕ, Option};
 ghost use Rattle.host.specs.Command.{options_of};
-ghost use Rattle.hosts.specs.Numbers.{child_of, end_of, nothing_of, polled_of};
+ghost use Rattle.hosts.specs.Numbers.{child_of, end_of, nothing_of, poll_of};
 
 use host::command::SpawnOptions;
 use host::state::ProcessEnd;
 
 // An answer of a call, as it is read from a number that is no fault's.
 pub(crate) trait FromNumber: Sized {
-    ghost said: { ℕ → Option Self };
+    ghost value_of: { ℕ → Option Self };
 
     // None where the number doesn't fit.
     fn from_number(number: u64) -> Option<Self>
-        ensures { result ≡ said number };
+        ensures { result ≡ value_of number };
 }
 
 // A child is from 1 to 2^31 − 1.
 impl FromNumber for u32 {
-    ghost said = { child_of };
+    ghost value_of = { child_of };
 
     fn from_number(number: u64) -> Option<u32> {
         match number {
@@ -28,7 +28,7 @@ impl FromNumber for u32 {
 }
 
 impl FromNumber for ProcessEnd {
-    ghost said = { end_of };
+    ghost value_of = { end_of };
 
     fn from_number(number: u64) -> Option<ProcessEnd> {
         match number {
@@ -41,7 +41,7 @@ impl FromNumber for ProcessEnd {
 
 // None is a child that goes on.
 impl FromNumber for Option<ProcessEnd> {
-    ghost said = { polled_of };
+    ghost value_of = { poll_of };
 
     fn from_number(number: u64) -> Option<Option<ProcessEnd>> {
         match number {
@@ -52,7 +52,7 @@ impl FromNumber for Option<ProcessEnd> {
 }
 
 impl FromNumber for SpawnOptions {
-    ghost said = { options_of };
+    ghost value_of = { options_of };
 
     fn from_number(number: u64) -> Option<SpawnOptions> {
         let sum = u8::try_from(number).ok()?;
@@ -61,7 +61,7 @@ impl FromNumber for SpawnOptions {
 }
 
 impl FromNumber for () {
-    ghost said = { nothing_of };
+    ghost value_of = { nothing_of };
 
     fn from_number(number: u64) -> Option<()> {
         (number == 0).then_some(())

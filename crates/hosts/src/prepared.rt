@@ -1,7 +1,6 @@
 // The host that answers from a sheet of prepared answers.
 ghost use Rattle.std.specs.Prelude.{◌≡◌, if◌then◌else◌};
-ghost use Rattle.host.specs.Books.{on_roster};
-ghost use Rattle.hosts.specs.Prepared.{Did, answer_about, fresh, next_answer, taken, view};
+ghost use Rattle.hosts.specs.Prepared.{Did, answer_about, book_of, fresh_host, is_child, next_answer, take_answer, view};
 ghost use Rattle.hosts.specs.PreparedBook.{bounded, keeps_so};
 
 use crate::numbers::FromNumber;
@@ -25,7 +24,7 @@ pub struct PreparedHost<A> {
 
 impl<A: AsSlice<i64> + Drop> PreparedHost<A> {
     pub fn new(answers: A) -> Self
-        ensures { view A.items result ≡ fresh (A.items answers) }
+        ensures { view A.items result ≡ fresh_host (A.items answers) }
     {
         PreparedHost {
             answers,
@@ -45,8 +44,8 @@ impl<A: AsSlice<i64> + Drop> PreparedHost<A> {
 
     // Takes the next answer; one that doesn't fit is used up.
     fn take<T: FromNumber>(&mut self) -> Result<T, Fault>
-        ensures answer { result ≡ next_answer T.said (view A.items self.old) }
-        ensures after { view A.items self.new ≡ taken (view A.items self.old) }
+        ensures answer { result ≡ next_answer T.value_of (view A.items self.old) }
+        ensures after { view A.items self.new ≡ take_answer (view A.items self.old) }
     {
         let Some(&number) = self.answers.as_slice().get(self.place) else {
             return Err(Fault::NO_ANSWER);
@@ -63,8 +62,9 @@ impl<A: AsSlice<i64> + Drop> PreparedHost<A> {
 
     // Takes the answer to a call that names a child, which has to be on the roster.
     fn take_for<T: FromNumber>(&mut self, child: u32) -> Result<T, Fault>
-        ensures answer { result ≡ answer_about child T.said (view A.items self.old) }
-        ensures after { let s = view A.items self.old in view A.items self.new ≡ (if on_roster child s.book.roster then taken s else s) }
+        ensures answer { result ≡ answer_about child T.value_of (view A.items self.old) }
+        ensures after { let s = view A.items self.old in
+            view A.items self.new ≡ (if is_child child s.child then take_answer s else s) }
     {
         if self.child != Some(child) {
             return Err(Fault::NO_CHILD);
@@ -78,14 +78,15 @@ impl<A: AsSlice<i64> + Drop> Host for PreparedHost<A> {
 
     ghost MOST = { 1 };
 
-    ghost book = { λ h. (view A.items h).book };
+    ghost book = { λ h. book_of (view A.items h) };
 
     ghost did = { Did A.items };
 
-    ghost keeps = { λ h c a k d. keeps_so (view A.items h) c a (view A.items k) d.0 d.1 };
+    ghost keeps = { λ h c a k did. keeps_so (view A.items h) c a (view A.items k) did };
 
     ghost bounded = { λ h. bounded h.child };
 
+    #[tactic(auto, using(crate::specs::PreparedBook::len_of_roster))]
     fn is_full(&self) -> bool {
         self.child.is_some()
     }
@@ -99,7 +100,7 @@ impl<A: AsSlice<i64> + Drop> Host for PreparedHost<A> {
     ) -> Result<u32, Fault> {
         self.served += 1;
         self.spawns += 1;
-        if self.is_full() {
+        if self.child.is_some() {
             return Err(Fault::NO_ROOM);
         }
         let child = self.take()?;

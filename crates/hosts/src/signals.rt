@@ -1,8 +1,8 @@
 // Signals, and what each does to a child of the simulated host.
 ghost use Rattle.std.specs.Prelude.{◌≡◌, ◌≤◌};
-ghost use Rattle.hosts.specs.Signals.{bit, delivered, ignored, signal_of};
+ghost use Rattle.hosts.specs.Signals.{has_bit, deliver, is_ignored, signal_of};
 
-use crate::children::{End, Life};
+use crate::child::{End, Life};
 use std::marker::Model;
 
 pub const KILL: u8 = 9;
@@ -71,25 +71,14 @@ impl Signal {
         self.number
     }
 
-    // The same signal, of which a proof then knows the range.
-    pub(crate) fn known(self) -> Signal
-        ensures is { result ≡ self }
-        ensures low { 1 ≤ result }
-        ensures high { result ≤ 31 }
-    {
-        Signal {
-            number: self.number,
-        }
-    }
-
     fn has_bit(self, mask: u32) -> bool
-        ensures { result ≡ bit mask self }
+        ensures { result ≡ has_bit mask self }
     {
         (mask >> self.number) & 1 == 1
     }
 
     fn is_ignored(self, mask: u32) -> bool
-        ensures { result ≡ ignored mask self }
+        ensures { result ≡ is_ignored mask self }
     {
         !matches!(self.number, KILL | CONT | STOP) && self.has_bit(mask)
     }
@@ -98,7 +87,7 @@ impl Signal {
 impl Life {
     // The life once a signal was delivered.
     pub(crate) fn delivered(self, mask: u32, signal: Signal) -> Life
-        ensures { result ≡ delivered mask signal self }
+        ensures { result ≡ deliver mask signal self }
     {
         match (self, signal.number()) {
             (Life::Ended(_), _) => self,

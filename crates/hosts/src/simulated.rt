@@ -1,13 +1,12 @@
-// The simulated host: its children are entries in a table, and do what they are told.
+// The simulated host: its children are entries in a list, and do what they are told.
 ghost use Rattle.std.specs.Prelude.{◌≡◌};
 ghost use Rattle.host.specs.Calls as Calls;
 ghost use Rattle.hosts.specs.Children.{is_living, life_of};
-ghost use Rattle.hosts.specs.Simulated.{Did, after, answer, book_of, fresh, happened, view};
-ghost use Rattle.hosts.specs.Roster.{items};
+ghost use Rattle.hosts.specs.Simulated.{Did, state_after, answer, book_of, fresh_host, make_happen, view};
 ghost use Rattle.hosts.specs.Book;
 
-use crate::children::{End, Life};
-use crate::roster::{MOST, Roster};
+use crate::child::{End, Life};
+use crate::children::{Children, MOST};
 use crate::signals::{CONT, KILL, NoSignal, Signal};
 use host::command::SpawnOptions;
 use host::fault::Fault;
@@ -18,7 +17,7 @@ use std::num::Wrapping;
 // Bit s of the mask says that the children ignore signal s, if it can be ignored; the options are the command's.
 #[derive(Drop)]
 pub struct SimulatedHost {
-    roster: Roster,
+    children: Children,
     mask: u32,
     options: SpawnOptions,
     served: Wrapping<u64>,
@@ -27,10 +26,10 @@ pub struct SimulatedHost {
 
 impl SimulatedHost {
     pub fn new(mask: u32, options: SpawnOptions) -> Self
-        ensures { view result ≡ fresh mask options }
+        ensures { view result ≡ fresh_host mask options }
     {
         SimulatedHost {
-            roster: Roster::new(),
+            children: Children::new(),
             mask,
             options,
             served: Wrapping(0),
@@ -40,15 +39,15 @@ impl SimulatedHost {
 
     fn send(&mut self, child: u32, signal: u8) -> Result<(), Fault>
         ensures answer { result ≡ answer (view self.old) (Calls.signal child signal) }
-        ensures after { view self.new ≡ after (view self.old) (Calls.signal child signal) }
+        ensures after { view self.new ≡ state_after (view self.old) (Calls.signal child signal) }
     {
         self.served += 1;
         // Not `ok_or(..)?`: with it, the checker makes a proof about borrows that it then refuses.
-        let Some(life) = self.roster.life(child) else {
+        let Some(life) = self.children.life(child) else {
             return Err(Fault::NO_CHILD);
         };
         match Signal::try_from(signal) {
-            Ok(signal) => self.roster.put(child, life.delivered(self.mask, signal)),
+            Ok(signal) => self.children.put(child, life.delivered(self.mask, signal)),
             Err(NoSignal::Null) => {}
             Err(NoSignal::Unknown) => return Err(Fault::INVALID),
         }
@@ -58,18 +57,19 @@ impl SimulatedHost {
     // A living child ends by itself, and true is answered; else nothing changes. Not counted as a call.
     pub fn exit(&mut self, child: u32, code: u8) -> bool
         ensures answer { result ≡ is_living (life_of child (view self.old).children) }
-        ensures after { view self.new ≡ happened child (Life.Ended (End.Exited code)) (view self.old) }
+        ensures after { view self.new ≡
+            make_happen child (Life.Ended (End.Exited code)) (view self.old) }
     {
-        self.roster
+        self.children
             .put_living(child, Life::Ended(End::Exited(code)))
     }
 
     // A living child stops by itself, and true is answered; else nothing changes. Not counted as a call.
     pub fn stop(&mut self, child: u32) -> bool
         ensures answer { result ≡ is_living (life_of child (view self.old).children) }
-        ensures after { view self.new ≡ happened child Life.Stopped (view self.old) }
+        ensures after { view self.new ≡ make_happen child Life.Stopped (view self.old) }
     {
-        self.roster.put_living(child, Life::Stopped)
+        self.children.put_living(child, Life::Stopped)
     }
 }
 
@@ -82,12 +82,12 @@ impl Host for SimulatedHost {
 
     ghost did = { Did };
 
-    ghost keeps = { λ h c a k d. Book.keeps_so (view h) h.roster.begun h.roster.numbered h.roster.fit c a (view k) d.0 d.1 };
+    ghost keeps = { λ h c a k did. Book.keeps_so h c a (view k) did };
 
-    ghost bounded = { λ h. Book.bounded (items h.roster) h.roster.few };
+    ghost bounded = { Book.bounded };
 
     fn is_full(&self) -> bool {
-        self.roster.is_full()
+        self.children.is_full()
     }
 
     fn spawn(
@@ -99,12 +99,12 @@ impl Host for SimulatedHost {
     ) -> Result<u32, Fault> {
         self.served += 1;
         self.spawns += 1;
-        self.roster.add().ok_or(Fault::NO_ROOM)
+        self.children.add().ok_or(Fault::NO_ROOM)
     }
 
     fn poll(&mut self, child: u32) -> Result<Option<ProcessEnd>, Fault> {
         self.served += 1;
-        match self.roster.report(child) {
+        match self.children.report(child) {
             None => Err(Fault::NO_CHILD),
             Some(Life::Going | Life::Stopped) => Ok(None),
             Some(Life::Ended(end)) => Ok(Some(end.into())),
@@ -129,7 +129,7 @@ impl Host for SimulatedHost {
 
     fn let_go(&mut self, child: u32) {
         self.served += 1;
-        self.roster.strike(child);
+        self.children.remove(child);
     }
 
     fn hook(

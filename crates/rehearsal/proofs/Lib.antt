@@ -1,6 +1,5 @@
 -- The lemmas that several answers share.
 pub mod Digits
 pub mod Splits
-pub mod Fields
 pub mod Reading
 pub mod Runs

@@ -1,5 +1,4 @@
 -- The definitions that the contracts cite.
-pub mod Parts
 pub mod Tokens
 pub mod Lines
 pub mod Script
@@ -7,4 +6,3 @@ pub mod Trees
 pub mod Plays
 pub mod Printed
 pub mod View
-pub mod Buffer

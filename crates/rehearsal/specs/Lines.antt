@@ -63,14 +63,15 @@ with_signal name signal = if bytes_eq name (codes "signal") then Some (Sends.The
 abbrev pub send_of : List TokenView → Option Send
 send_of (word name ∷ []) = send_named name
 send_of (word name ∷ number signal ∷ []) = option_and_then (λ s. with_signal name (signal_of s)) (value_of signal)
-send_of (word name ∷ number signal ∷ number grace ∷ []) = option_and_then (λ p. with_grace name (signal_of p.0) (grace_of p.1)) (option_zip (value_of signal) (value_of grace))
+send_of (word name ∷ number signal ∷ number grace ∷ []) =
+    option_and_then (λ p. with_grace name (signal_of p.0) (grace_of p.1)) (option_zip (value_of signal) (value_of grace))
 send_of tokens = None
 
 -- a letter and what stands behind its tab
-abbrev pub lettered : List ℕ → Option (ℕ × List ℕ)
-lettered [] = None
-lettered (letter ∷ []) = None
-lettered (letter ∷ tab ∷ rest) = if tab == 9 then Some (letter, rest) else None
+abbrev pub letter_and_rest : List ℕ → Option (ℕ × List ℕ)
+letter_and_rest [] = None
+letter_and_rest (letter ∷ []) = None
+letter_and_rest (letter ∷ tab ∷ rest) = if tab == 9 then Some (letter, rest) else None
 
 -- m: options and mask
 abbrev pub make_line : ℕ × ℕ → Line
@@ -109,13 +110,13 @@ abbrev pub line_by : Bool → ℕ → List ℕ → Option Line
 line_by first letter fields =
     if letter == 109 && first then option_map make_line (numbers_of fields)
     else if letter == 99 then option_map (λ send. Lines.TheVariants.Call (Calls.TheVariants.Send send)) (send_of (tokens_of fields))
-    else if letter == 115 then option_map Lines.TheVariants.Call (option_and_then step_call (lettered fields))
+    else if letter == 115 then option_map Lines.TheVariants.Call (option_and_then step_call (letter_and_rest fields))
     else if letter == 112 then option_map (λ n. Lines.TheVariants.Call (Calls.TheVariants.Pause (signal_of n))) (number_of fields)
     else if letter == 108 then option_map (λ n. Lines.TheVariants.Call (Calls.TheVariants.Look n)) (number_of fields)
     else if letter == 103 then option_map (λ n. Lines.TheVariants.Call (Calls.TheVariants.Collect n)) (number_of fields)
-    else if letter == 119 then option_and_then event_line (lettered fields)
+    else if letter == 119 then option_and_then event_line (letter_and_rest fields)
     else None
 
 -- what a line says; none for a faulty one
 abbrev pub line_of : Bool → List ℕ → Option Line
-line_of first line = option_and_then (λ p. line_by first p.0 p.1) (lettered line)
+line_of first line = option_and_then (λ p. line_by first p.0 p.1) (letter_and_rest line)

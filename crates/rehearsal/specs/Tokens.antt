@@ -6,7 +6,6 @@ use Rattle.std.specs.Option.{option_and_then, option_map_or, option_zip}
 use Rattle.rehearsal.specs.declared.token.Token.{Token}
 use Rattle.rehearsal.specs.declared.token.Tokens.{Tokens}
 use Rattle.rehearsal.specs.declared.token.Token.TheVariants.{Word, Number}
-use Rattle.rehearsal.specs.Parts.{parted}
 
 -- TOKENS
 
@@ -32,8 +31,8 @@ abbrev pub tokens_of : List ℕ → List TokenView
 tokens_of fields = map token_of (slice_split (λ b. b == 9) fields)
 
 -- the tokens that are still to be taken
-abbrev pub left : Tokens → List TokenView
-left tokens = option_map_or (λ rest. tokens_of rest.now) tokens.rest []
+abbrev pub tokens_left : Tokens → List TokenView
+tokens_left tokens = option_map_or (λ rest. tokens_of rest.now) tokens.rest []
 
 -- the first of the tokens was taken, if there was one
 abbrev pub Takes : List TokenView → Option Token → List TokenView → Type 0
@@ -48,12 +47,12 @@ read_on n [] = Some n
 read_on n (b ∷ bs) = if is_ascii_digit b then read_on (n * 10 + (b - 48)) bs else None
 
 -- a number that is below 2^63
-abbrev pub below : ℕ → Option ℕ
-below n = if nat_lt n (2 ^ 63) then Some n else None
+abbrev pub if_below : ℕ → Option ℕ
+if_below n = if nat_lt n (2 ^ 63) then Some n else None
 
 -- the number that digits write, if it is below 2^63
 abbrev pub value_of : List ℕ → Option ℕ
-value_of digits = option_and_then below (read_on 0 digits)
+value_of digits = option_and_then if_below (read_on 0 digits)
 
 -- the number that a token writes; a word writes none
 abbrev pub number_in : TokenView → Option ℕ
@@ -63,6 +62,10 @@ number_in (number digits) = value_of digits
 abbrev pub number_of : List ℕ → Option ℕ
 number_of field = number_in (token_of field)
 
--- the numbers of two fields with a tab between them
+-- the numbers that two tokens write
+abbrev pub two_numbers : List TokenView → Option (ℕ × ℕ)
+two_numbers (number a ∷ number b ∷ []) = option_zip (value_of a) (value_of b)
+two_numbers tokens = None
+
 abbrev pub numbers_of : List ℕ → Option (ℕ × ℕ)
-numbers_of fields = option_and_then (λ p. option_zip (number_of p.0) (number_of p.1)) (parted 9 fields)
+numbers_of fields = two_numbers (tokens_of fields)

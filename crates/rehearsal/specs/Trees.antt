@@ -8,7 +8,7 @@ use Rattle.foreground.specs.Absent as Absent
 
 -- what the host holds, and the terminal's book
 abbrev pub Outside : Type 0
-Outside = World Simulated.Sim TerminalBook
+Outside = World Simulated.HostView TerminalBook
 
 -- what answers a call
 abbrev pub reply : Outside → (c : Call) → Reply c
@@ -16,9 +16,9 @@ reply w (to_host c) = Simulated.answer w.host c
 reply w (to_terminal c) = Absent.answer c
 
 -- what it leaves of both
-abbrev pub after : Outside → Call → Outside
-after w (to_host c) = record w { host = Simulated.after w.host c }
-after w (to_terminal c) = record w { terminal = Absent.counted w.terminal }
+abbrev pub outside_after : Outside → Call → Outside
+outside_after w (to_host c) = record w { host = Simulated.state_after w.host c }
+outside_after w (to_terminal c) = record w { terminal = Absent.count_call w.terminal }
 
 -- a tree that was run: what it ended with, its calls with their answers, and what they left
 pub record Run (A : Type 0) : Type 0 where
@@ -27,9 +27,9 @@ pub record Run (A : Type 0) : Type 0 where
   pub outside : Outside
 
 -- a call before others
-abbrev pub before_others : {A : Type 0} → Event → Run A → Run A
-before_others e r = record r { trace = e ∷ r.trace }
+abbrev pub prepend_call : {A : Type 0} → Event → Run A → Run A
+prepend_call e r = record r { trace = e ∷ r.trace }
 
 abbrev pub run : {A : Type 0} → Interaction A → Outside → Run A
 run (done x) w = record { value = x; trace = []; outside = w }
-run (ask c k) w = before_others (c, reply w c) (run (k (reply w c)) (after w c))
+run (ask c k) w = prepend_call (c, reply w c) (run (k (reply w c)) (outside_after w c))

@@ -1,7 +1,7 @@
-// The rehearsal: a script of calls on one job is checked, run on the simulated host and the absent terminal, and printed.
+// The rehearsal: a script of calls on one job is checked, run on the simulated host and the absent
+// terminal, and printed.
 #![tactic(auto)]
 
-mod buffer;
 mod line;
 mod parts;
 mod print;
@@ -10,7 +10,7 @@ mod script;
 mod token;
 
 ghost use Rattle.std.specs.Prelude.{◌≡◌, IfOk, string_bytes};
-ghost use Rattle.rehearsal.specs.Printed.{rehearsed};
+ghost use Rattle.rehearsal.specs.Printed.{rehearsal_text};
 
 pub use crate::line::{Line, parse};
 use crate::print::fault_line;
@@ -22,9 +22,10 @@ use std::alloc::{AllocError, Global};
 // The most bytes of a script.
 pub const MOST_BYTES: usize = 32768;
 
-// The text that a script prints: what each of its lines answers with the records of its calls, or the number of a faulty line.
+// The text that a script prints: what each of its lines answers with the records of its calls, or
+// the number of a faulty line.
 pub fn rehearse(heap: Global, script: &[u8]) -> Result<String, AllocError>
-    ensures { IfOk result (λ text. string_bytes text ≡ rehearsed script.now) }
+    ensures { IfOk result (λ text. string_bytes text ≡ rehearsal_text script.now) }
 {
     match script::read(heap, script) {
         Ok(lines) => Rehearsal::new().perform(heap, &lines),

@@ -1,7 +1,7 @@
 // What a line of a script says.
 ghost use Rattle.std.specs.Prelude.{◌≡◌};
 ghost use Rattle.std.specs.Option.{option_and_then, option_map};
-ghost use Rattle.rehearsal.specs.Lines.{call_letter, event_line, exit_line, grace_of, letter_of, lettered, line_by, line_of, send_named, send_of, signal_of, step_call, step_kind, stop_line, with_grace, with_signal};
+ghost use Rattle.rehearsal.specs.Lines.{call_letter, event_line, exit_line, grace_of, letter_of, letter_and_rest, line_by, line_of, send_named, send_of, signal_of, step_call, step_kind, stop_line, with_grace, with_signal};
 ghost use Rattle.rehearsal.specs.Tokens.{numbers_of, tokens_of};
 
 use crate::token::{Token, Tokens, number, two_numbers, value};
@@ -63,8 +63,8 @@ fn send_named(name: &[u8]) -> Option<Send>
     }
 }
 
-// A job refuses all signals over 31 alike, and all graces over a day: so a number that is too large for its type may stand as the
-// type's largest. On a closed job it isn't looked at.
+// A job refuses all signals over 31 alike, and all graces over a day: so a number that is too large
+// for its type may stand as the type's largest. On a closed job it isn't looked at.
 fn signal_of(number: u64) -> u8
     ensures { result ≡ signal_of number }
 {
@@ -101,7 +101,7 @@ fn with_signal(name: &[u8], signal: u8) -> Option<Send>
 
 // A letter and what stands behind its tab.
 fn lettered(bytes: &[u8]) -> Option<(u8, &[u8])>
-    ensures { option_map (λ p. (p.0, p.1.now)) result ≡ lettered bytes.now }
+    ensures { option_map (λ p. (p.0, p.1.now)) result ≡ letter_and_rest bytes.now }
 {
     match bytes {
         [letter, b'\t', rest @ ..] => Some((*letter, rest)),
@@ -139,7 +139,7 @@ fn step_kind(letter: u8) -> Option<StepKind>
 }
 
 fn read_step(fields: &[u8]) -> Option<Call>
-    ensures { result ≡ option_and_then step_call (lettered fields.now) }
+    ensures { result ≡ option_and_then step_call (letter_and_rest fields.now) }
 {
     let (letter, time) = lettered(fields)?;
     Some(Call::Step {
@@ -168,7 +168,7 @@ fn read_stop(fields: &[u8]) -> Option<Line>
 }
 
 fn read_event(fields: &[u8]) -> Option<Line>
-    ensures { result ≡ option_and_then event_line (lettered fields.now) }
+    ensures { result ≡ option_and_then event_line (letter_and_rest fields.now) }
 {
     match lettered(fields)? {
         (b'x', rest) => read_exit(rest),

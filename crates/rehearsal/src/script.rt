@@ -48,14 +48,16 @@ impl<T: Drop> From<AllocFailed<T>> for ReadError {
 
 // What the lines of a script say, or what is wrong with it.
 pub(crate) fn read(heap: Global, script: &[u8]) -> Result<Vec<Line>, ReadError>
-    ensures { MatchResult result (λ lines. script_of script.now ≡ Ok lines.items) (Explains (script_of script.now)) }
+    ensures { MatchResult result
+        (λ lines. script_of script.now ≡ Ok lines.items) (Explains (script_of script.now)) }
 {
     if script.len() > MOST_BYTES {
         return Err(ScriptFault::TooLong.into());
     }
     let mut lines = Vec::new(heap);
     let mut rest = script;
-    // By `cut` and not by `split_inclusive`: what it leaves is the line that has no end, while of a piece that would have to be told.
+    // By `cut` and not by `split_inclusive`: what it leaves is the line that has no end, while of a
+    // piece that would have to be told.
     while let Some((text, behind)) = cut(rest, b'\n') {
         let number = lines.len() + 1;
         let Some(line) = parse(text, number == 1) else {

@@ -2,7 +2,7 @@
 ghost use Rattle.std.specs.Prelude.{◌≡◌};
 ghost use Rattle.std.specs.Char.{is_ascii_digit};
 ghost use Rattle.std.specs.List.{list_all};
-ghost use Rattle.rehearsal.specs.Tokens.{Takes, left, tokens_of, is_written, number_of, numbers_of, token_of, token_view, value_of};
+ghost use Rattle.rehearsal.specs.Tokens.{Takes, tokens_left, tokens_of, is_written, number_of, numbers_of, token_of, token_view, value_of};
 
 use crate::parts::cut;
 
@@ -52,14 +52,13 @@ pub(crate) struct Tokens<'a> {
 
 impl<'a> Tokens<'a> {
     pub(crate) fn of(fields: &'a [u8]) -> Tokens<'a>
-        ensures { left result ≡ tokens_of fields.now }
+        ensures { tokens_left result ≡ tokens_of fields.now }
     {
         Tokens { rest: Some(fields) }
     }
 
-    #[tactic(auto, using(crate::proofs::Fields::tokens_first, crate::proofs::Fields::tokens_only))]
     pub(crate) fn take(&mut self) -> Option<Token<'a>>
-        ensures { Takes (left self.old) result (left self.new) }
+        ensures { Takes (tokens_left self.old) result (tokens_left self.new) }
     {
         let rest = self.rest?;
         match cut(rest, b'\t') {
@@ -102,6 +101,11 @@ pub(crate) fn number(field: &[u8]) -> Option<u64>
 pub(crate) fn two_numbers(fields: &[u8]) -> Option<(u64, u64)>
     ensures { result ≡ numbers_of fields.now }
 {
-    let (first, second) = cut(fields, b'\t')?;
-    Some((number(first)?, number(second)?))
+    let mut tokens = Tokens::of(fields);
+    match (tokens.take(), tokens.take(), tokens.take()) {
+        (Some(Token::Number(first)), Some(Token::Number(second)), None) => {
+            Some((value(first)?, value(second)?))
+        }
+        _ => None,
+    }
 }

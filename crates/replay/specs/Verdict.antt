@@ -11,7 +11,9 @@ use Rattle.replay.specs.declared.verdict.Verdict as Verdicts
 abbrev pub found : Expected → List ℕ → Verdict
 found Expecteds.TheVariants.None ours = Verdicts.TheVariants.Unrecorded
 found (Expecteds.TheVariants.Rust rust) ours = if bytes_eq rust.now ours then Verdicts.TheVariants.Same else Verdicts.TheVariants.Different
-found (Expecteds.TheVariants.Corrected rust correction corrected) ours = if bytes_eq corrected.now ours && not (bytes_eq rust.now ours) then Verdicts.TheVariants.Corrected else Verdicts.TheVariants.Different
+found (Expecteds.TheVariants.Corrected rust correction corrected) ours =
+    if bytes_eq corrected.now ours && not (bytes_eq rust.now ours) then Verdicts.TheVariants.Corrected
+    else Verdicts.TheVariants.Different
 
 -- one more, up to the greatest number of 64 bits
 abbrev pub one_more : ℕ → ℕ

@@ -1,4 +1,5 @@
-// The controls that a line `k` names. Where the Rust has two forms of a control, both names stand for the one control of the job.
+// The controls that a line `k` names. Where the Rust has two forms of a control, both names stand
+// for the one control of the job.
 use crate::numbers::{grace_of, number_of, one, signal_of, two};
 use task::messages::Control;
 

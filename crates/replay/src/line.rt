@@ -21,7 +21,8 @@ fn call(text: &str) -> Option<Call> {
     }
 }
 
-// A line behind the first two: a call on the job, or a setting of its terminal. A line `k` sends any control.
+// A line behind the first two: a call on the job, or a setting of its terminal. A line `k` sends
+// any control.
 pub(crate) fn read_line(text: &str) -> Option<Line> {
     match text.split_once('\t')? {
         ("t", fields) => read_setting(fields).map(Line::Terminal),
@@ -35,7 +36,11 @@ pub(crate) fn read_line(text: &str) -> Option<Line> {
 // The first line: the job, with its options and its program.
 pub(crate) fn read_job(text: &str) -> Option<Job> {
     let (options, program) = two(text.strip_prefix("M\t")?)?;
-    Job::new(u8::try_from(program).ok()?, u8::try_from(options).ok()?).ok()
+    let (program, options) = (u8::try_from(program).ok()?, u8::try_from(options).ok()?);
+    match Job::new(program, options) {
+        Ok(job) => Some(job),
+        Err(_) => None,
+    }
 }
 
 // The second line: the answers of the host, written as in the journal.

@@ -11,8 +11,8 @@ pub(crate) fn two(fields: &str) -> Option<(u64, u64)> {
     Some((one(first)?, one(second)?))
 }
 
-// A job refuses all signals over 31 alike, all graces over a day, and all numbers that are not 1 to 255: so one that is too large for
-// its type may stand as another that is refused.
+// A job refuses all signals over 31 alike, all graces over a day, and all numbers that are not 1 to
+// 255: so one that is too large for its type may stand as another that is refused.
 pub(crate) fn signal_of(number: u64) -> u8 {
     u8::try_from(number).unwrap_or(u8::MAX)
 }

@@ -43,7 +43,8 @@ fn write_difference(text: &mut String, theirs: &str, ours: &str) -> Result<(), A
     write_lines(text, '+', ours, before, behind)
 }
 
-// Adds what is found of a script: its answers where none were recorded, and else where they are other ones.
+// Adds what is found of a script: its answers where none were recorded, and else where they are
+// other ones.
 fn write_found(
     text: &mut String,
     script: Recorded<'_>,
@@ -81,7 +82,8 @@ fn write_found(
 
 impl Report {
     fn tell(&mut self, script: Recorded<'_>, ours: &str) -> Result<(), AllocError>
-        ensures { OnOk result (self.new.tally ≡ counted (found script.entry.expected ours.now) self.old.tally) }
+        ensures { OnOk result
+            (self.new.tally ≡ counted (found script.entry.expected ours.now) self.old.tally) }
     {
         let verdict = compare(script.expected, ours);
         self.tally.count(verdict);

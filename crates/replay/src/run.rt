@@ -4,7 +4,7 @@ ghost use Rattle.replay.specs.Calls.{Adds, Calls, Plays};
 
 use crate::line::{Line, read_answers, read_job, read_line};
 use crate::session::Session;
-use drive::calls::{Call, Done};
+use drive::calls::{Call, Done, Value};
 use drive::runs;
 use host::journal::Record;
 use hosts::prepared::PreparedHost;
@@ -66,16 +66,23 @@ impl Run {
                 self.session.admit(&self.sheet[..records]);
                 Some(done)
             }
-            Line::Terminal(setting) => self.session.set(setting).then_some(Ok(0).into()),
+            Line::Terminal(setting) => self
+                .session
+                .set(setting)
+                .then_some(Ok(Value::Nothing).into()),
         }
     }
 
-    // Adds what the line of this number answers, in the form of a rehearsal; a line's letter is its first field.
+    // Adds what the line of this number answers, in the form of a rehearsal; a line's letter is its
+    // first field.
     fn add(&mut self, text: &mut String, number: usize, read: &str) -> Result<(), ScriptError>
-        ensures { OnOk result (Adds number read.now self.old (string_bytes text.old) self.new (string_bytes text.new)) }
+        ensures { OnOk result (Adds number read.now
+            self.old (string_bytes text.old) self.new (string_bytes text.new)) }
     {
         let said = read_line(read).ok_or(ScriptError::Line(number))?;
-        let done = self.play(said).ok_or(ScriptError::Line(number))?;
+        let Some(done) = self.play(said) else {
+            return Err(ScriptError::Line(number));
+        };
         let letter = read.chars().next().ok_or(ScriptError::Line(number))?;
         write_line(text, number, letter, done, &self.sheet)?;
         Ok(())

@@ -1,9 +1,10 @@
-// The terminal of a script: a simulated one, also for one that is absent and for one whose session has every group.
+// The terminal of a script: a simulated one, also for one that is absent and for one whose session
+// has every group.
 ghost use Rattle.replay.specs.Terminals.{OnlyGroups};
 
 use crate::setting::Setting;
+use foreground::disposition::Handling;
 use foreground::group::Group;
-use foreground::process::Handling;
 use foreground::session::{Member, PLACES};
 use foreground::simulated::SimulatedTerminal;
 use host::journal::{Answer, CallKind, Record};
@@ -27,7 +28,8 @@ pub(crate) struct Session {
 
 const OWN: usize = 0;
 
-// The place of the child, where the session has every group: a host with a sheet has one child at most.
+// The place of the child, where the session has every group: a host with a sheet has one child at
+// most.
 const CHILD: usize = 1;
 
 impl Session {

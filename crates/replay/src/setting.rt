@@ -1,7 +1,7 @@
 // What a line `t` sets of the terminal.
 use crate::numbers::{one, two};
+use foreground::disposition::Handling;
 use foreground::group::Group;
-use foreground::process::Handling;
 use foreground::session::Member;
 
 // The terminal itself, which is set before the first call, or one of its values.

@@ -40,7 +40,8 @@ pub struct Tally {
 }
 
 impl Tally {
-    // A script without recorded answers isn't counted; no count goes past the greatest number of its type.
+    // A script without recorded answers isn't counted; no count goes past the greatest number of
+    // its type.
     pub(crate) fn count(&mut self, verdict: Verdict)
         ensures { self.new ≡ counted verdict self.old }
     {

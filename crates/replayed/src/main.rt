@@ -1,4 +1,5 @@
-// Reads a sample of scripts from standard input, runs them on the job, and prints where it answers otherwise than was recorded.
+// Reads a sample of scripts from standard input, runs them on the job, and prints where it answers
+// otherwise than was recorded.
 #![tactic(auto)]
 
 use replay::Tally;

@@ -17,7 +17,8 @@ take_in_two n xs ys =
     ]
 
 -- the slot `n` after `head` is their sum, or the sum less `size` where the last slot is passed
-wraps_once : (size head n : ℕ) → head < size → n ≤ size → ((head + n < size) × ((head + n) % size ≡ head + n)) ⊎ ((size ≤ head + n) × ((head + n) % size ≡ head + n - size))
+wraps_once : (size head n : ℕ) → head < size → n ≤ size → ((head + n < size) × ((head + n) % size ≡ head + n)) ⊎
+    ((size ≤ head + n) × ((head + n) % size ≡ head + n - size))
 wraps_once size head n a b =
     elim (cases_lt (head + n) size) [
       | inl below ↦ inl (below, mod-eq_of_lt below)
@@ -26,17 +27,28 @@ wraps_once size head n a b =
 
 module _ {X : Type 0} (slots : List X) (ring : Ring) (within : ring.head < length slots) where
   -- an item that is written to the slot after the last one is held at the end
-  pub items_after_put : (x : X) → ring.len < length slots → items (set slots ((ring.head + ring.len) % length slots) x) (one_more ring) ≡ items slots ring ++ x ∷ []
+  pub items_after_put : (x : X) → ring.len < length slots → items (set slots ((ring.head + ring.len) % length slots) x) (one_more ring) ≡ items slots ring
+      ++ x ∷ []
   items_after_put x room =
       grind (arith, common_steps, wraps_once (length slots) ring.head ring.len within (omega arith), drop-set-add, take_in_two)
 
   -- the slots read from the one after the head on: the head comes last
-  next_turn : (d : X) → drop ((ring.head + 1) % length slots) slots ++ take ((ring.head + 1) % length slots) slots ≡ (drop (ring.head + 1) slots ++ take ring.head slots) ++ get_or slots ring.head d ∷ []
+  next_turn : (d : X) → drop ((ring.head + 1) % length slots) slots ++ take ((ring.head + 1) % length slots) slots
+      ≡ (drop (ring.head + 1) slots ++ take ring.head slots) ++ get_or slots ring.head d ∷ []
   next_turn d =
-      grind (arith, append_assoc, wraps_once (length slots) ring.head 1 within (omega arith), take_more slots ring.head d within, take_all (ring.head + 1) slots, drop_all (ring.head + 1) slots)
+      grind (
+        arith,
+        append_assoc,
+        wraps_once (length slots) ring.head 1 within (omega arith),
+        take_more slots ring.head d within,
+        take_all (ring.head + 1)
+            slots,
+        drop_all (ring.head + 1) slots,
+      )
 
   -- the items are the one at the head, then those that are held once it is taken
-  pub items_before_take : (d : X) → 0 < ring.len → ring.len ≤ length slots → items slots ring ≡ get_or slots ring.head d ∷ items slots (one_less (length slots) ring)
+  pub items_before_take : (d : X) → 0 < ring.len → ring.len ≤ length slots → items slots ring ≡ get_or slots ring.head d ∷ items slots
+      (one_less (length slots) ring)
   items_before_take d some few =
       let e : ring.len ≡ suc (ring.len - 1) = omega arith in
       grind (

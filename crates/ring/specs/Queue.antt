@@ -4,5 +4,5 @@ use Rattle.ring.specs.Ring.{items}
 use Rattle.ring.specs.declared.queue.Queue.{Queue}
 
 -- what a queue holds, oldest first
-abbrev pub held : {X : Type 0} {n : ℕ} → Queue X n → List X
-held q = items q.slots q.marks
+abbrev pub items_of : {X : Type 0} {n : ℕ} → Queue X n → List X
+items_of q = items q.slots q.marks

@@ -29,8 +29,8 @@ abbrev pub has_item : ℕ → Ring → Bool
 has_item size ring = fits size ring && nat_lt 0 ring.len
 
 -- of `size` slots, the one after the last item
-abbrev pub place : ℕ → Ring → ℕ
-place size ring = (ring.head + ring.len) % size
+abbrev pub next_slot : ℕ → Ring → ℕ
+next_slot size ring = (ring.head + ring.len) % size
 
 -- the marks with one item more at the end
 abbrev pub one_more : Ring → Ring
@@ -45,5 +45,5 @@ abbrev pub oldest : {X : Type 0} → List X → Ring → Option X
 oldest slots ring = if fits (length slots) ring then first (items slots ring) else None
 
 -- what a take leaves: all but the oldest item, where the marks lie within the slots
-abbrev pub newer : {X : Type 0} → List X → Ring → List X
-newer slots ring = if fits (length slots) ring then rest (items slots ring) else items slots ring
+abbrev pub without_oldest : {X : Type 0} → List X → Ring → List X
+without_oldest slots ring = if fits (length slots) ring then rest (items slots ring) else items slots ring

@@ -31,9 +31,9 @@ impl<T: Copy, const N: usize> Clone for Queue<T, N> {
 
 // An empty queue.
 impl<T: Copy + Default, const N: usize> Default for Queue<T, N> {
-    ghost use Rattle.ring.specs.Queue.{held};
+    ghost use Rattle.ring.specs.Queue.{items_of};
 
-    ghost is_default = { λ queue. held queue ≡ [] };
+    ghost is_default = { λ queue. items_of queue ≡ [] };
 
     fn default() -> Self {
         Queue::new(T::default())
@@ -41,11 +41,11 @@ impl<T: Copy + Default, const N: usize> Default for Queue<T, N> {
 }
 
 impl<T: Copy, const N: usize> Queue<T, N> {
-    ghost use Rattle.ring.specs.Queue.{held};
+    ghost use Rattle.ring.specs.Queue.{items_of};
 
     // An empty queue; `blank` fills its slots.
     pub fn new(blank: T) -> Self
-        ensures { held result ≡ [] }
+        ensures { items_of result ≡ [] }
     {
         Queue {
             slots: [blank; N],
@@ -55,37 +55,37 @@ impl<T: Copy, const N: usize> Queue<T, N> {
 
     // How many items more it can take.
     pub fn room(&self) -> usize
-        ensures { result ≡ N - length (held self.now) }
+        ensures { result ≡ N - length (items_of self.now) }
     {
         N - self.marks.len
     }
 
     // One item more at the end, or false where every slot is taken.
     pub fn push(&mut self, x: T) -> bool
-        ensures answer { result ≡ nat_lt (length (held self.old)) N }
-        ensures after { held self.new ≡ held self.old ++ (if result then x ∷ [] else []) }
+        ensures answer { result ≡ nat_lt (length (items_of self.old)) N }
+        ensures after { items_of self.new ≡ items_of self.old ++ (if result then x ∷ [] else []) }
     {
         slots::put(&mut self.slots, &mut self.marks, x)
     }
 
     // The oldest item, which leaves the queue, or none where it is empty.
     pub fn pop(&mut self) -> Option<T>
-        ensures answer { result ≡ first (held self.old) }
-        ensures after { held self.new ≡ rest (held self.old) }
+        ensures answer { result ≡ first (items_of self.old) }
+        ensures after { items_of self.new ≡ rest (items_of self.old) }
     {
         slots::take(&self.slots, &mut self.marks)
     }
 
     // Lets every item go.
     pub fn clear(&mut self)
-        ensures { held self.new ≡ [] }
+        ensures { items_of self.new ≡ [] }
     {
         self.marks = Ring::EMPTY;
     }
 
     // The items, oldest first: those of the first slice, then those of the second.
     pub fn as_slices(&self) -> (&[T], &[T])
-        ensures { result.0.now ++ result.1.now ≡ held self.now }
+        ensures { result.0.now ++ result.1.now ≡ items_of self.now }
     {
         slots::as_slices(&self.slots, &self.marks)
     }

@@ -1,6 +1,6 @@
 // A ring whose items lie in a slice beside its marks.
 ghost use Rattle.std.specs.Prelude.{◌≡◌, ◌+◌, ◌%◌, ◌<◌, ◌≤◌, [], ◌∷◌, ◌++◌, length, if◌then◌else◌, slice_set, IsTrue};
-ghost use Rattle.ring.specs.Ring.{fits, has_item, has_room, items, newer, oldest, one_less, one_more, place};
+ghost use Rattle.ring.specs.Ring.{fits, has_item, has_room, items, without_oldest, oldest, one_less, one_more, next_slot};
 
 // The slot of the oldest item, and how many items there are. The marks lie beside the slots, since put and take are for any slice.
 #[derive(Clone, Copy, Debug, PartialEq, Eq)]
@@ -28,10 +28,14 @@ fn slot_after(size: usize, head: usize, n: usize) -> usize
 #[tactic(auto, using(crate::proofs::Items::items_after_put))]
 pub fn put<T: Copy>(slots: &mut [T], ring: &mut Ring, x: T) -> bool
     ensures answer { result ≡ has_room (length slots.old) ring.old }
-    ensures slots { slots.new ≡ (if result then slice_set slots.old (place (length slots.old) ring.old) x else slots.old) }
+    ensures slots { slots.new
+        ≡ (if result then slice_set slots.old (next_slot (length slots.old) ring.old) x
+        else slots.old) }
     ensures marks { ring.new ≡ (if result then one_more ring.old else ring.old) }
-    ensures items { items slots.new ring.new ≡ items slots.old ring.old ++ (if result then x ∷ [] else []) }
-    ensures within { IsTrue (fits (length slots.old) ring.old) → IsTrue (fits (length slots.new) ring.new) }
+    ensures items { items slots.new ring.new ≡ items slots.old ring.old ++
+        (if result then x ∷ [] else []) }
+    ensures within { IsTrue (fits (length slots.old) ring.old)
+        → IsTrue (fits (length slots.new) ring.new) }
 {
     if ring.head >= slots.len() || ring.len >= slots.len() {
         return false;
@@ -46,9 +50,12 @@ pub fn put<T: Copy>(slots: &mut [T], ring: &mut Ring, x: T) -> bool
 #[tactic(auto, using(crate::proofs::Items::items_before_take))]
 pub fn take<T: Copy>(slots: &[T], ring: &mut Ring) -> Option<T>
     ensures answer { result ≡ oldest slots.now ring.old }
-    ensures marks { ring.new ≡ (if has_item (length slots.now) ring.old then one_less (length slots.now) ring.old else ring.old) }
-    ensures items { items slots.now ring.new ≡ newer slots.now ring.old }
-    ensures within { IsTrue (fits (length slots.now) ring.old) → IsTrue (fits (length slots.now) ring.new) }
+    ensures marks { ring.new
+        ≡ (if has_item (length slots.now) ring.old then one_less (length slots.now) ring.old
+        else ring.old) }
+    ensures items { items slots.now ring.new ≡ without_oldest slots.now ring.old }
+    ensures within { IsTrue (fits (length slots.now) ring.old)
+        → IsTrue (fits (length slots.now) ring.new) }
 {
     if ring.head >= slots.len() || ring.len > slots.len() || ring.len == 0 {
         return None;

@@ -1,7 +1,6 @@
--- What is shown of the parts of a job: the books, the queues and tickets, starts, and steps.
+-- What is shown of the parts of a job: the books, the mailbox, and what a step was.
 pub mod Books
+pub mod Graces
 pub mod Mailboxes
 pub mod Steps
-pub mod Fits
-pub mod Graces
-pub mod Counting
+pub mod Ways

@@ -1,14 +1,16 @@
 -- The job: what it holds, how it is made, its sends, looks and collects, its pauses, and its steps.
-use Rattle.std.specs.Prelude.{ℕ, ◌^◌, Bool, true, false, if◌then◌else◌, not, ◌&&◌, ◌||◌, List, [], ◌∷◌, ◌++◌, length, is_some, Some, None, Ok, Err, Option, Result, ◌==◌, nat_le, nat_lt, ⊤}
+use Rattle.std.specs.Prelude.{ℕ, ◌^◌, Bool, true, false, if◌then◌else◌, not, ◌&&◌, ◌||◌, [], ◌∷◌, ◌++◌, length, is_some, Some, None, Ok, Err, Option, Result, ◌==◌, nat_le, nat_lt, ⊤}
+use Rattle.std.specs.Result.{result_and}
 use Rattle.host.specs.declared.command.SpawnOptions.{SpawnOptions}
 use Rattle.host.specs.declared.command.Command.{Command}
 use Rattle.host.specs.declared.state.CommandState.TheVariants.{Pending}
+use Rattle.host.specs.Books.{Roster, no_child}
 use Rattle.host.specs.Command.{options_of}
 use Rattle.host.specs.State.{is_running}
 use Rattle.host.specs.Interaction.{Interaction, done, bind}
 use Rattle.tickets.specs.declared.flag.Mark.{Mark}
 use Rattle.tickets.specs.declared.flag.Mark.TheVariants.{Held, Raised}
-use Rattle.tickets.specs.Tickets.{found}
+use Rattle.tickets.specs.Tickets.{mark_of}
 use Rattle.supervisor.specs.declared.errors.Refusal.{Refusal}
 use Rattle.supervisor.specs.declared.errors.Refusal.TheVariants.{Closed, Sheet, Clock, Signal, Number, Unwatched, Pauses, Unknown, Waiting}
 use Rattle.supervisor.specs.declared.answers.Progress.{Progress}
@@ -22,7 +24,7 @@ use Rattle.supervisor.specs.Answers.{control_progress, poll_progress, pause_prog
 use Rattle.task.specs.Task as Tree
 use Rattle.task.specs.Task.{TaskView, children, closes, control, poll_child, with_pauses}
 use Rattle.supervisor.specs.Mailbox as Mail
-use Rattle.supervisor.specs.Mailbox.{MailboxView, Taken, take, orders_start, settle, after_poll}
+use Rattle.supervisor.specs.Mailbox.{MailboxView, TakeResult, take, orders_start, settle, settle_poll}
 use Rattle.supervisor.specs.Sends.{priority_of, controls_of}
 use Rattle.supervisor.specs.Timers.{memory}
 
@@ -38,8 +40,8 @@ with_mailbox m v = record v { mailbox = m }
 -- MAKING
 
 -- a fresh job: open and pending, with no ticket issued and all else empty, none or 0
-abbrev pub fresh : Command → JobView
-fresh c = record {
+abbrev pub fresh_job : Command → JobView
+fresh_job c = record {
   closed = false;
   task = record {
     command = c;
@@ -48,17 +50,17 @@ fresh c = record {
     previous = None;
     foreground = record { paused = None; pauses = []; watch = false; grant = false };
   };
-  mailbox = Mail.empty;
+  mailbox = Mail.empty_mailbox;
   clock = 0;
 }
 
-abbrev pub made_of : ℕ → Option SpawnOptions → Result JobView Refusal
-made_of program None = Err Number
-made_of program (Some options) = Ok (fresh (record { program = program; options = options }))
+abbrev pub make_with : ℕ → Option SpawnOptions → Result JobView Refusal
+make_with program None = Err Number
+make_with program (Some options) = Ok (fresh_job (record { program = program; options = options }))
 
 -- a program of 0, or options over 15, are refused
 abbrev pub make : ℕ → ℕ → Result JobView Refusal
-make program options = if program == 0 then Err Number else made_of program (options_of options)
+make program options = if program == 0 then Err Number else make_with program (options_of options)
 
 -- QUESTIONS
 
@@ -67,37 +69,37 @@ abbrev pub runs : JobView → Bool
 runs v = not v.closed && is_running v.task.state
 
 -- the children of a job: the one that runs
-abbrev pub children_of : JobView → List ℕ
-children_of v = if v.closed then [] else children v.task.state
+abbrev pub children_of : JobView → Roster
+children_of v = if v.closed then no_child else children v.task.state
 
 -- SENDS
 
-abbrev pub sent : MailboxView × Result ℕ Refusal → JobView → JobView × Result ℕ Refusal
-sent (m, r) v = (with_mailbox m v, r)
+abbrev pub after_send : MailboxView × Result ℕ Refusal → JobView → JobView × Result ℕ Refusal
+after_send (m, r) v = (with_mailbox m v, r)
 
 -- a closed job answers ticket 0; an open one refuses all controls of a send, or takes all and answers the last one's ticket
 abbrev pub send : Send → JobView → JobView × Result ℕ Refusal
-send s v = if v.closed then (v, Ok 0) else sent (Mail.send (priority_of s) (controls_of s) v.mailbox) v
+send s v = if v.closed then (v, Ok 0) else after_send (Mail.send (priority_of s) (controls_of s) v.mailbox) v
 
 -- LOOK AND COLLECT
 
 -- ticket 0 is done; a held one is done once it is raised, or the job is closed
-abbrev pub looked : Bool → Option Mark → Result Bool Refusal
-looked closed (Some Held) = Ok closed
-looked closed (Some Raised) = Ok true
-looked closed mark = Err Unknown
+abbrev pub is_done : Bool → Option Mark → Result Bool Refusal
+is_done closed (Some Held) = Ok closed
+is_done closed (Some Raised) = Ok true
+is_done closed mark = Err Unknown
 
 abbrev pub look : ℕ → JobView → Result Bool Refusal
-look ticket v = if ticket == 0 then Ok true else looked v.closed (found ticket v.mailbox.tickets.table)
+look ticket v = if ticket == 0 then Ok true else is_done v.closed (mark_of ticket v.mailbox.tickets.table)
 
-abbrev pub collected : Result Bool Refusal → ℕ → JobView → JobView × Result ⊤ Refusal
-collected (Ok true) ticket v = (with_mailbox (Mail.vacated ticket v.mailbox) v, Ok tt)
-collected (Ok false) ticket v = (v, Err Waiting)
-collected (Err r) ticket v = (v, Err r)
+abbrev pub collect_if : Result Bool Refusal → ℕ → JobView → JobView × Result ⊤ Refusal
+collect_if (Ok true) ticket v = (with_mailbox (Mail.vacate_ticket ticket v.mailbox) v, Ok tt)
+collect_if (Ok false) ticket v = (v, Err Waiting)
+collect_if (Err r) ticket v = (v, Err r)
 
 -- what a look calls done is collected; ticket 0 has no place to free
 abbrev pub collect : ℕ → JobView → JobView × Result ⊤ Refusal
-collect ticket v = if ticket == 0 then (v, Ok tt) else collected (looked v.closed (found ticket v.mailbox.tickets.table)) ticket v
+collect ticket v = if ticket == 0 then (v, Ok tt) else collect_if (is_done v.closed (mark_of ticket v.mailbox.tickets.table)) ticket v
 
 -- PAUSES
 
@@ -115,65 +117,70 @@ may_pause signal v =
 abbrev pub with_pause : ℕ → JobView → JobView
 with_pause signal v = record v { task = with_pauses (v.task.foreground.pauses ++ signal ∷ []) v.task }
 
-abbrev pub paused : Result ⊤ Refusal → ℕ → JobView → JobView × Result ⊤ Refusal
-paused (Ok u) signal v = (with_pause signal v, Ok tt)
-paused (Err r) signal v = (v, Err r)
+abbrev pub pause_if : Result ⊤ Refusal → ℕ → JobView → JobView × Result ⊤ Refusal
+pause_if (Ok u) signal v = (with_pause signal v, Ok tt)
+pause_if (Err r) signal v = (v, Err r)
 
 abbrev pub pause : ℕ → JobView → JobView × Result ⊤ Refusal
-pause signal v = paused (may_pause signal v) signal v
+pause signal v = pause_if (may_pause signal v) signal v
 
 -- STEPS
 
+abbrev pub check_open : JobView → Result ⊤ Refusal
+check_open v = if v.closed then Err Closed else Ok tt
+
+abbrev pub check_sheet : ℕ → Result ⊤ Refusal
+check_sheet places = if nat_lt places 8 then Err Sheet else Ok tt
+
+abbrev pub check_time : ℕ → JobView → Result ⊤ Refusal
+check_time time v = if nat_le v.clock time && nat_le time (2 ^ 62) then Ok tt else Err Clock
+
 -- a step at this time, with a sheet of so many places, may be made, or is refused
 abbrev pub may_step : ℕ → ℕ → JobView → Result ⊤ Refusal
-may_step time places v =
-    if v.closed then Err Closed
-    else if nat_lt places 8 then Err Sheet
-    else if nat_le v.clock time && nat_le time (2 ^ 62) then Ok tt
-    else Err Clock
+may_step time places v = result_and (check_open v) (result_and (check_sheet places) (check_time time v))
 
 -- what an accepted step ends with: the job, what was done, and whether a control that orders a start was taken from a queue
-pub record Stepping : Type 0 where
+pub record StepEnd : Type 0 where
   pub view : JobView
   pub progress : Progress
   pub ordered : Bool
 
 -- a message was taken, which left the mailbox m, and its control carried out
-abbrev pub carried : ℕ → Received → MailboxView → TaskView × Outcome → Stepping
-carried time r m x = record {
+abbrev pub control_end : ℕ → Received → MailboxView → TaskView × Outcome → StepEnd
+control_end time r m x = record {
   view = record { closed = closes x.1; task = x.0; mailbox = settle time x.1 r.message.ticket m; clock = time };
   progress = control_progress x.1;
   ordered = orders_start r;
 }
 
-abbrev pub carry_out : Taken → ℕ → JobView → Interaction Stepping
+abbrev pub carry_out : TakeResult → ℕ → JobView → Interaction StepEnd
 carry_out None time v = done (record { view = record v { clock = time }; progress = Idle; ordered = false })
-carry_out (Some (r, m)) time v = bind (control r.message.control time v.task) (λ x. done (carried time r m x))
+carry_out (Some (r, m)) time v = bind (control r.message.control time v.task) (λ x. done (control_end time r m x))
 
 -- a control step carries out the control that it takes
-abbrev pub control_step : ℕ → JobView → Interaction Stepping
+abbrev pub control_step : ℕ → JobView → Interaction StepEnd
 control_step time v = carry_out (take time v.mailbox) time v
 
-abbrev pub watched : ℕ → JobView → TaskView × PollOutcome → Stepping
-watched time v x = record {
-  view = record v { task = x.0; mailbox = after_poll x.1 v.mailbox; clock = time };
+abbrev pub poll_end : ℕ → JobView → TaskView × PollOutcome → StepEnd
+poll_end time v x = record {
+  view = record v { task = x.0; mailbox = settle_poll x.1 v.mailbox; clock = time };
   progress = poll_progress x.1;
   ordered = false;
 }
 
 -- a child step polls the child, and continues the restart that is remembered, if one is
-abbrev pub child_step : ℕ → JobView → Interaction Stepping
-child_step time v = bind (poll_child (is_some (memory v.mailbox.timer)) time v.task) (λ x. done (watched time v x))
+abbrev pub child_step : ℕ → JobView → Interaction StepEnd
+child_step time v = bind (poll_child (is_some (memory v.mailbox.timer)) time v.task) (λ x. done (poll_end time v x))
 
-abbrev pub pause_taken : ℕ → JobView → TaskView × Option ℕ → Stepping
-pause_taken time v x = record { view = record v { task = x.0; clock = time }; progress = pause_progress x.1; ordered = false }
+abbrev pub pause_end : ℕ → JobView → TaskView × Option ℕ → StepEnd
+pause_end time v x = record { view = record v { task = x.0; clock = time }; progress = pause_progress x.1; ordered = false }
 
 -- a pause step takes the oldest pause, while a child runs; `own` is the terminal's own group
-abbrev pub pause_step : ℕ → ℕ → JobView → Interaction Stepping
-pause_step own time v = bind (Tree.pause own v.task) (λ x. done (pause_taken time v x))
+abbrev pub pause_step : ℕ → ℕ → JobView → Interaction StepEnd
+pause_step own time v = bind (Tree.pause own v.task) (λ x. done (pause_end time v x))
 
 -- a step of each kind, over a terminal with that own group
-abbrev pub tree_of : StepKind.StepKind → ℕ → ℕ → JobView → Interaction Stepping
+abbrev pub tree_of : StepKind.StepKind → ℕ → ℕ → JobView → Interaction StepEnd
 tree_of StepKind.TheVariants.Control own = control_step
 tree_of StepKind.TheVariants.Child own = child_step
 tree_of StepKind.TheVariants.Pause own = pause_step own

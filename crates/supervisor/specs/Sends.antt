@@ -34,8 +34,8 @@ controls_of Sends.DeleteNow = Controls.Stop ∷ Controls.Delete ∷ []
 controls_of Sends.ToWait = Controls.NextEnding ∷ []
 
 -- the controls of a send, as a list: the one before the last, if there are two, and the last
-abbrev pub listed : Sent.Controls → List Control
-listed cs = option_to_list cs.before ++ cs.last ∷ []
+abbrev pub list_of : Sent.Controls → List Control
+list_of cs = option_to_list cs.before ++ cs.last ∷ []
 
 -- WHAT CONTROLS MAY CARRY: a signal of at most 31, a grace of at most a day, a number that is not 0
 

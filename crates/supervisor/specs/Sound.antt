@@ -25,33 +25,33 @@ weigh_waiting w m = weigh_queues w m.queues + weigh_timer w m.timer + weigh w m.
 
 -- the tickets in hand, and those that wait in a queue, the timer or the ending list, are those that wait in the table, each as
 -- often: their weights are equal, whatever a ticket weighs
-abbrev pub Balanced : List ℕ → MailboxView → Type 0
-Balanced hand m = (w : ℕ → ℕ) → weigh w hand + weigh_waiting w m ≡ weight is_waiting w m.tickets.table
+abbrev pub IsBalanced : List ℕ → MailboxView → Type 0
+IsBalanced hand m = (w : ℕ → ℕ) → weigh w hand + weigh_waiting w m ≡ weight is_waiting w m.tickets.table
 
 -- a ticket has at most one place in the table
-abbrev pub Once : MailboxView → Type 0
-Once m = (s : ℕ) → weight is_taken (one_at s) m.tickets.table ≤ 1
+abbrev pub HasOnePlace : MailboxView → Type 0
+HasOnePlace m = (s : ℕ) → weight is_taken (one_at s) m.tickets.table ≤ 1
 
 -- and none before it is issued
-abbrev pub Later : MailboxView → Type 0
-Later m = (s : ℕ) → m.tickets.issued < s → weight is_taken (one_at s) m.tickets.table ≡ 0
+abbrev pub HasNoneLater : MailboxView → Type 0
+HasNoneLater m = (s : ℕ) → m.tickets.issued < s → weight is_taken (one_at s) m.tickets.table ≡ 0
 
 -- the table has its 256 places
-abbrev pub Full : MailboxView → Type 0
-Full m = length m.tickets.table ≡ 256
+abbrev pub HasAllPlaces : MailboxView → Type 0
+HasAllPlaces m = length m.tickets.table ≡ 256
 
 -- what is taken during a grace sets no timer: no message of the high and the urgent queue does
 abbrev pub any_timed : List ControlMessage → Bool
 any_timed cs = list_any (λ c. sets_timer c.control) cs
 
-pub record Calm (q : QueuesView) : Type 0 where
+pub record IsCalm (q : QueuesView) : Type 0 where
   pub high : any_timed q.high ≡ false
   pub urgent : any_timed q.urgent ≡ false
 
 -- the mailbox is in order while the tickets `hand` are in hand
-pub record InOrder (hand : List ℕ) (m : MailboxView) : Type 0 where
-  pub balance : Balanced hand m
-  pub once : Once m
-  pub later : Later m
-  pub calm : Calm m.queues
-  pub full : Full m
+pub record IsInOrder (hand : List ℕ) (m : MailboxView) : Type 0 where
+  pub balance : IsBalanced hand m
+  pub once : HasOnePlace m
+  pub later : HasNoneLater m
+  pub calm : IsCalm m.queues
+  pub full : HasAllPlaces m

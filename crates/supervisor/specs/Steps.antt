@@ -9,8 +9,9 @@ use Rattle.host.specs.Books.{host_along, terminal_along, spawns_in}
 use Rattle.supervisor.specs.declared.errors.Refusal.{Refusal}
 use Rattle.supervisor.specs.declared.answers.Stepped.{Stepped}
 use Rattle.supervisor.specs.declared.job.Job.{Job}
+use Rattle.tickets.specs.declared.ticket.Ticket.{Ticket}
 use Rattle.task.specs.Conducts.{Conducts}
-use Rattle.supervisor.specs.Job.{JobView, Stepping, may_step}
+use Rattle.supervisor.specs.Job.{JobView, StepEnd, may_step}
 use Rattle.task.specs.View.{task_view}
 use Rattle.supervisor.specs.View.{mailbox_view}
 
@@ -20,6 +21,10 @@ job_view j = record { closed = j.closed; task = task_view j.task; mailbox = mail
 -- a job that was made, as its view
 abbrev pub view_made : Result Job Refusal → Result JobView Refusal
 view_made r = result_map_both job_view (λ refusal. refusal) r
+
+-- a send's answer, with the ticket by its serial
+abbrev pub by_serial : Result Ticket Refusal → Result ℕ Refusal
+by_serial r = result_map_both (λ ticket. ticket.serial) (λ refusal. refusal) r
 
 -- The call f of the job j was answered r, and left the job j'; where it was refused nothing changed.
 pub record Answers {A : Type 0} (f : JobView → JobView × Result A Refusal) (j : Job) (r : Result A Refusal) (j' : Job) : Type 0 where
@@ -39,19 +44,22 @@ moment job host terminal sheet = record { job = job; host = host; terminal = ter
 abbrev pub world_at : {H T : Type 0} → Moment H T → World H T
 world_at a = record { host = a.host; terminal = a.terminal }
 
-abbrev pub stepping : Job → Stepped → Stepping
-stepping j s = record { view = job_view j; progress = s.progress; ordered = s.ordered }
+abbrev pub step_end : Job → Stepped → StepEnd
+step_end j s = record { view = job_view j; progress = s.progress; ordered = s.ordered }
 
 -- An accepted step led from the moment a to the moment b and answered s: the calls that were made, with their arguments and
 -- answers, are a trace of its tree; the job is what the tree ends with; the sheet holds the trace's records from its first place
 -- on, and behind them what it held; the books moved along the trace; at most one start was tried.
-pub record Accepted {H T : Type 0} (by_host : Host.Ghosts H) (by_terminal : Terminal.Ghosts T) (tree : Interaction Stepping) (a : Moment H T) (s : Stepped) (b : Moment H T) : Type 0 where
-  pub conducts : Conducts by_host by_terminal tree (world_at a) a.sheet (stepping b.job s) s.records (world_at b) b.sheet
+pub record Steps {H T : Type 0} (by_host : Host.Ghosts H) (by_terminal : Terminal.Ghosts T) (tree : Interaction StepEnd) (a : Moment H T) (s : Stepped)
+    (b : Moment H T) : Type 0 where
+  pub conducts : Conducts by_host by_terminal tree (world_at a) a.sheet (step_end b.job s) s.records (world_at b) b.sheet
   pub host_book : by_host.book b.host ≡ host_along (by_host.book a.host) conducts.trace
   pub terminal_book : by_terminal.book b.terminal ≡ terminal_along (by_terminal.book a.terminal) conducts.trace
   pub starts : spawns_in conducts.trace ≤ 1
 
 -- a step is refused and changes nothing, or is accepted
-abbrev pub Steps : {H T : Type 0} (by_host : Host.Ghosts H) (by_terminal : Terminal.Ghosts T) → (ℕ → JobView → Interaction Stepping) → ℕ → Moment H T → Result Stepped Refusal → Moment H T → Type 0
-Steps by_host by_terminal tree time a (Err r) b = (may_step time (length a.sheet) (job_view a.job) ≡ Err r) × (b ≡ a)
-Steps by_host by_terminal tree time a (Ok s) b = (may_step time (length a.sheet) (job_view a.job) ≡ Ok tt) × Accepted by_host by_terminal (tree time (job_view a.job)) a s b
+abbrev pub StepsOrRefuses : {H T : Type 0} (by_host : Host.Ghosts H) (by_terminal : Terminal.Ghosts T) → (ℕ → JobView → Interaction StepEnd) → ℕ → Moment H T
+    → Result Stepped Refusal → Moment H T → Type 0
+StepsOrRefuses by_host by_terminal tree time a (Err r) b = (may_step time (length a.sheet) (job_view a.job) ≡ Err r) × (b ≡ a)
+StepsOrRefuses by_host by_terminal tree time a (Ok s) b = (may_step time (length a.sheet) (job_view a.job) ≡ Ok tt) × Steps by_host by_terminal
+    (tree time (job_view a.job)) a s b

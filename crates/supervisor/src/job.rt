@@ -1,7 +1,7 @@
 // A job, and what holds of every job.
 ghost use Rattle.std.specs.Prelude.{◌≡◌, ◌^◌, ◌≤◌, true, false, []};
-ghost use Rattle.task.specs.Task.{Granted};
-ghost use Rattle.supervisor.specs.Sound.{Full, InOrder};
+ghost use Rattle.task.specs.Task.{GrantMeansRunning};
+ghost use Rattle.supervisor.specs.Sound.{HasAllPlaces, IsInOrder};
 ghost use Rattle.task.specs.View.{task_view};
 ghost use Rattle.supervisor.specs.View.{mailbox_view};
 
@@ -18,10 +18,10 @@ pub struct Job {
     mailbox: Mailbox,
     // The time of the last accepted step.
     clock: u64,
-    ghost in_order: { closed ≡ false → InOrder [] (mailbox_view mailbox) },
+    ghost in_order: { closed ≡ false → IsInOrder [] (mailbox_view mailbox) },
     // Of a closed job too, so it stands beside `in_order`.
-    ghost full: { Full (mailbox_view mailbox) },
-    ghost granted: { Granted (task_view task) },
+    ghost full: { HasAllPlaces (mailbox_view mailbox) },
+    ghost granted: { GrantMeansRunning (task_view task) },
     // A closed job holds no grant.
     ghost yielded: { closed ≡ true → (task_view task).foreground.grant ≡ false },
     ghost timely: { clock ≤ 2 ^ 62 },

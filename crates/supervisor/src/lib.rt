@@ -7,6 +7,4 @@ pub mod job;
 pub mod mailbox;
 pub mod queues;
 pub mod sends;
-#[cfg(test)]
-mod tests;
 pub mod timer;

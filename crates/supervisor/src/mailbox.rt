@@ -1,9 +1,8 @@
 // The mailbox of a job: its queues, its timer, the tickets that wait for the child's end, and the ticket table.
 ghost use Rattle.std.specs.Prelude.{◌≡◌, ◌+◌, ◌^◌, ◌<◌, ◌≤◌, true, length, None, OnErr};
 ghost use Rattle.std.specs.Option.{option_map};
-ghost use Rattle.tickets.specs.Tickets.{ticket_room};
 ghost use Rattle.supervisor.specs.Mailbox as Mail;
-ghost use Rattle.supervisor.specs.Sends.{listed};
+ghost use Rattle.supervisor.specs.Sends.{list_of};
 ghost use Rattle.supervisor.specs.Timers as Timers;
 ghost use Rattle.supervisor.specs.View.{mailbox_view};
 
@@ -54,7 +53,7 @@ impl Received {
 impl Mailbox {
     // A mailbox with no messages and no tickets.
     pub(crate) fn new() -> Self
-        ensures { mailbox_view result ≡ Mail.empty }
+        ensures { mailbox_view result ≡ Mail.empty_mailbox }
     {
         Mailbox {
             queues: Queues::default(),
@@ -66,9 +65,11 @@ impl Mailbox {
 
     // Gives a control the next ticket, held or not, and adds it to its queue.
     fn admit(&mut self, priority: Priority, control: Control, held: bool) -> u32
-        requires { (Mail.queue_room priority 1 (mailbox_view self.old).queues ≡ true) × (ticket_room 1 (mailbox_view self.old).tickets.issued (mailbox_view self.old).tickets.table ≡ true) }
+        requires queue { Mail.queue_room priority 1 (mailbox_view self.old).queues ≡ true }
+        requires ticket { Mail.serial_room 1 (mailbox_view self.old) ≡ true }
         ensures ticket { result ≡ (mailbox_view self.old).tickets.issued + 1 }
-        ensures after { mailbox_view self.new ≡ Mail.admitted priority control held (mailbox_view self.old) }
+        ensures after { mailbox_view self.new ≡ Mail.admit priority control held
+            (mailbox_view self.old) }
     {
         let ticket = self.tickets.issue(held).unwrap();
         self.queues
@@ -79,7 +80,8 @@ impl Mailbox {
     // Gives each control a ticket, the last one a held one, which is answered, and adds them to their queue; or refuses all, for
     // what they carry, or where the queue or the ticket table lacks room.
     pub(crate) fn send(&mut self, priority: Priority, controls: Controls) -> Result<u32, Refusal>
-        ensures answer { (mailbox_view self.new, result) ≡ Mail.send priority (listed controls) (mailbox_view self.old) }
+        ensures answer { (mailbox_view self.new, result) ≡ Mail.send priority (list_of controls)
+            (mailbox_view self.old) }
         ensures unchanged { OnErr result (self.new ≡ self.old) }
     {
         controls.fit()?;
@@ -99,7 +101,7 @@ impl Mailbox {
 
     // The message of the timer, if its deadline has come.
     fn due(&self, time: u64) -> Option<ControlMessage>
-        ensures { result ≡ Timers.due time (mailbox_view self.now).timer }
+        ensures { result ≡ Timers.due_message time (mailbox_view self.now).timer }
     {
         self.timer
             .filter(|timer| timer.deadline <= time)
@@ -108,7 +110,8 @@ impl Mailbox {
 
     // Takes the timer's message if its deadline has come, and the timer is gone with it; else the next of the queues.
     pub(crate) fn receive(&mut self, time: u64) -> Option<Received>
-        ensures taken { Mail.take time (mailbox_view self.old) ≡ option_map (λ r. (r, mailbox_view self.new)) result }
+        ensures taken { Mail.take time (mailbox_view self.old)
+            ≡ option_map (λ r. (r, mailbox_view self.new)) result }
         ensures idle { result ≡ None → mailbox_view self.new ≡ mailbox_view self.old }
     {
         if let Some(message) = self.due(time) {
@@ -141,18 +144,20 @@ impl Mailbox {
 
     // Frees the place of a ticket.
     pub(crate) fn vacate(&mut self, ticket: u32)
-        ensures { mailbox_view self.new ≡ Mail.vacated ticket (mailbox_view self.old) }
+        ensures { mailbox_view self.new ≡ Mail.vacate_ticket ticket (mailbox_view self.old) }
     {
         self.tickets.vacate(ticket);
     }
 
     // Raises each ticket of the ending list, and empties the list.
     fn raise_ending(&mut self)
-        ensures { mailbox_view self.new ≡ Mail.endings_raised (mailbox_view self.old) }
+        ensures { mailbox_view self.new ≡ Mail.raise_endings (mailbox_view self.old) }
     {
+        let tickets = &mut self.tickets;
         let (older, newer) = self.ending.as_slices();
-        self.tickets.raise_each(older);
-        self.tickets.raise_each(newer);
+        for &ticket in older.iter().chain(newer) {
+            tickets.raise(ticket);
+        }
         self.ending.clear();
     }
 
@@ -183,7 +188,7 @@ impl Mailbox {
 
     // The child has ended: raises the timer's ticket, drops the timer, and raises the ending list.
     fn raise_ended(&mut self)
-        ensures { mailbox_view self.new ≡ Mail.ended (mailbox_view self.old) }
+        ensures { mailbox_view self.new ≡ Mail.raise_at_end (mailbox_view self.old) }
     {
         if let Some(timer) = self.timer {
             self.timer = None;
@@ -193,8 +198,8 @@ impl Mailbox {
     }
 
     // Sees to the tickets that wait for the child's end, once it was polled.
-    pub(crate) fn after_poll(&mut self, outcome: PollOutcome)
-        ensures { mailbox_view self.new ≡ Mail.after_poll outcome (mailbox_view self.old) }
+    pub(crate) fn settle_poll(&mut self, outcome: PollOutcome)
+        ensures { mailbox_view self.new ≡ Mail.settle_poll outcome (mailbox_view self.old) }
     {
         let memory = self.memory();
         match outcome {

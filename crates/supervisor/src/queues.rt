@@ -39,7 +39,7 @@ impl Queues {
     // Adds a message to a queue that has room.
     pub(crate) fn send(&mut self, priority: Priority, message: ControlMessage)
         requires { Mail.queue_room priority 1 (queues_view self.old) ≡ true }
-        ensures { queues_view self.new ≡ Mail.enqueued priority message (queues_view self.old) }
+        ensures { queues_view self.new ≡ Mail.enqueue priority message (queues_view self.old) }
     {
         let _ = match priority {
             Priority::Normal => self.normal.push(message),
@@ -50,7 +50,8 @@ impl Queues {
 
     // Takes the oldest urgent message, else the oldest high one, else, unless a grace runs, the oldest normal one.
     pub(crate) fn receive(&mut self, graced: bool) -> Option<ControlMessage>
-        ensures taken { Mail.next graced (queues_view self.old) ≡ option_map (λ message. (message, queues_view self.new)) result }
+        ensures taken { Mail.next graced (queues_view self.old)
+            ≡ option_map (λ message. (message, queues_view self.new)) result }
         ensures idle { result ≡ None → queues_view self.new ≡ queues_view self.old }
     {
         // Not `pop().or_else(|| ..)`: what a closure has popped, a proof doesn't know.

@@ -65,7 +65,7 @@ impl Send {
 }
 
 impl From<Send> for Controls {
-    ghost from_gives = { λ send controls. Spec.listed controls ≡ Spec.controls_of send };
+    ghost from_gives = { λ send controls. Spec.list_of controls ≡ Spec.controls_of send };
 
     fn from(send: Send) -> Controls {
         match send {
@@ -144,13 +144,13 @@ fn fits(control: Control) -> Result<(), Refusal>
 impl Controls {
     // Whether what they carry is in range.
     pub(crate) fn fit(self) -> Result<(), Refusal>
-        ensures { result ≡ Spec.all_fit (Spec.listed self) }
+        ensures { result ≡ Spec.all_fit (Spec.list_of self) }
     {
         self.before.map_or(Ok(()), fits).and(fits(self.last))
     }
 
     pub(crate) fn count(self) -> usize
-        ensures { result ≡ length (Spec.listed self) }
+        ensures { result ≡ length (Spec.list_of self) }
     {
         if self.before.is_some() { 2 } else { 1 }
     }

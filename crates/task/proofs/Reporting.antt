@@ -9,5 +9,7 @@ use Rattle.task.specs.Performs.{Performs}
 use Rattle.task.specs.Task as Tree
 use Rattle.task.proofs.Performing.{still_at, and_then}
 
-pub telling : {H T : Type 0} {by_host : Host.Ghosts H} {by_terminal : Terminal.Ghosts T} (part : Tree.Part) {a b : ℕ} {s m s' : Step H T} {t : Tree.TaskView} {r : Result ⊤ Fault} → Performs by_host by_terminal a part s (t, r) m → Performs by_host by_terminal b (Tree.told t.settings.handler r) m tt s' → Performs by_host by_terminal (a + (b + 0)) (Tree.reported part) s (t, r) s'
-telling part {t = t} {r = r} p q = and_then part _ p (and_then (Tree.told t.settings.handler r) _ q (still_at refl))
+pub telling : {H T : Type 0} {by_host : Host.Ghosts H} {by_terminal : Terminal.Ghosts T} (part : Tree.Part) {a b : ℕ} {s m s' : Step H T} {t : Tree.TaskView}
+    {r : Result ⊤ Fault} → Performs by_host by_terminal a part s (t, r) m → Performs by_host by_terminal b (Tree.tell_fault t.settings.handler r) m tt s'
+    → Performs by_host by_terminal (a + (b + 0)) (Tree.report part) s (t, r) s'
+telling part {t = t} {r = r} p q = and_then part _ p (and_then (Tree.tell_fault t.settings.handler r) _ q (still_at refl))

@@ -1,22 +1,19 @@
--- What holds along each trace of a control, of a poll and of a pause, whatever host and terminal answer.
-use Rattle.std.proofs.Common.{◌≡◌, ℕ, Bool, refl, List, Option, arith}
+-- What holds along each trace of a tree that keeps the books, whatever host and terminal answer.
+use Rattle.std.proofs.Common.{◌≡◌, refl, List}
 use Rattle.std.specs.Int.{from_bool}
 use Rattle.std.specs.List.{fold}
 use Rattle.host.specs.Calls.{Call, Reply, Event}
-use Rattle.host.specs.Books.{HostBook, TerminalBook, host_along, terminal_along, spawns_in}
+use Rattle.host.specs.Books.{HostBook, TerminalBook, host_along, terminal_along}
 use Rattle.host.specs.Interaction.{Interaction, Traces}
-use Rattle.task.specs.declared.messages.Control.{Control}
-use Rattle.task.specs.declared.task.Outcome.{Outcome}
-use Rattle.task.specs.declared.task.PollOutcome.{PollOutcome}
-use Rattle.task.specs.Task as Tree
-use Rattle.task.specs.Task.{TaskView, children, Granted}
+use Rattle.host.specs.Journal.{journal}
+use Rattle.task.specs.Task.{TaskView, children, GrantMeansRunning}
 use Rattle.task.proofs.Always.{Always, always_traced}
-use Rattle.task.proofs.Books.{Books, moved, moved_from}
-use Rattle.task.proofs.Courses.{FitsTask, Carried, Polled, control_fits, poll_fits, pause_fits}
+use Rattle.task.proofs.Books.{Books, no_calls, tally_of, moved, moved_along, tally-journal}
+use Rattle.task.proofs.Courses.{FitsTask}
 
--- the books after the calls of a trace
+-- the books after the calls of a trace, with the tally of these
 abbrev pub after : HostBook → TerminalBook → List Event → Books
-after h u p = record { roster = (host_along h p).roster; grants = (terminal_along u p).grants; tried = spawns_in p }
+after h u p = record { roster = (host_along h p).roster; grants = (terminal_along u p).grants; tally = tally_of (journal p) }
 
 -- the books fit the task
 pub record Fitting (t : TaskView) (h : HostBook) (u : TerminalBook) : Type 0 where
@@ -33,18 +30,10 @@ fitting_terminal t = record { own = 1; grants = from_bool t.foreground.grant; se
 pub fitting : (t : TaskView) → Fitting t (fitting_host t) (fitting_terminal t)
 fitting t = record { roster = refl; grants = refl }
 
-module _ {W : Type 0} (did : W → (c : Call) → Reply c → W → Type 0) (t : TaskView) (g : Granted t) where
-  pub traced : {A : Type 0} (R : Books → A → Type 0) (tree : Interaction A) (w w' : W) (p : List Event) (x : A) → ((b : Books) → FitsTask 0 t b → Always moved R b tree) → Traces did tree w p x w' → (h : HostBook) (u : TerminalBook) → Fitting t h u → R (after h u p) x
-  traced R tree w w' p x k r h u f =
-      let b : Books = record { roster = h.roster; grants = u.grants; tried = 0 } in
-      let ends : R (fold (λ v e. moved v e.0 e.1) b p) x = always_traced moved did R b tree w w' p x (k b (g, f.roster, f.grants, omega arith)) r in
-      rw (moved_from h u p) at ends
-
-  pub control_traced : (c : Control) (time : ℕ) (w w' : W) (p : List Event) (x : TaskView × Outcome) → Traces did (Tree.control c time t) w p x w' → (h : HostBook) (u : TerminalBook) → Fitting t h u → Carried c (after h u p) x
-  control_traced c time w w' p x r = traced (Carried c) (Tree.control c time t) w w' p x (control_fits c time t) r
-
-  pub poll_traced : (restart : Bool) (time : ℕ) (w w' : W) (p : List Event) (x : TaskView × PollOutcome) → Traces did (Tree.poll_child restart time t) w p x w' → (h : HostBook) (u : TerminalBook) → Fitting t h u → Polled restart (after h u p) x
-  poll_traced restart time w w' p x r = traced (Polled restart) (Tree.poll_child restart time t) w w' p x (poll_fits restart time t) r
-
-  pub pause_traced : (own : ℕ) (w w' : W) (p : List Event) (x : TaskView × Option ℕ) → Traces did (Tree.pause own t) w p x w' → (h : HostBook) (u : TerminalBook) → Fitting t h u → FitsTask 0 x.0 (after h u p)
-  pause_traced own w w' p x r = traced (λ u x. FitsTask 0 x.0 u) (Tree.pause own t) w w' p x (pause_fits own t) r
+pub traced : {W A : Type 0} (did : W → (c : Call) → Reply c → W → Type 0) (t : TaskView) → GrantMeansRunning t → (R : Books → A → Type 0) (tree : Interaction A)
+    (w w' : W) (p : List Event) (x : A) → ((b : Books) → FitsTask no_calls t b → Always moved R b tree) → Traces did tree w p x w'
+    → (h : HostBook) (u : TerminalBook) → Fitting t h u → R (after h u p) x
+traced did t g R tree w w' p x k r h u f =
+    let b : Books = record { roster = h.roster; grants = u.grants; tally = no_calls } in
+    let ends : R (fold (λ v e. moved v e.0 e.1) b p) x = always_traced moved did R b tree w w' p x (k b (g, f.roster, f.grants, refl)) r in
+    rw (moved_along h u no_calls p, tally-journal (journal p)) at ends

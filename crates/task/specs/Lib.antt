@@ -2,6 +2,5 @@
 pub mod Conducts
 pub mod Messages
 pub mod Performs
-pub mod Place
 pub mod Task
 pub mod View

@@ -20,6 +20,6 @@ sets_timer (TryGracefulRestart s grace) = true
 sets_timer c = false
 
 -- the control of the timer of a grace that the child outlasts
-abbrev pub at_end : GraceEnd → Control
-at_end Stop = Controls.Stop
-at_end Restart = ContinueTryGracefulRestart
+abbrev pub control_at_end : GraceEnd → Control
+control_at_end Stop = Controls.Stop
+control_at_end Restart = ContinueTryGracefulRestart

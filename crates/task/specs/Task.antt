@@ -7,8 +7,9 @@ use Rattle.host.specs.declared.command.Command.{Command}
 use Rattle.host.specs.declared.state.ProcessEnd.{ProcessEnd}
 use Rattle.host.specs.declared.state.CommandState.{CommandState}
 use Rattle.host.specs.declared.state.CommandState.TheVariants.{Pending, Running, Finished}
+use Rattle.host.specs.Books.{Roster, no_child, one_child}
 use Rattle.host.specs.Command.{wants_grant}
-use Rattle.host.specs.State.{is_running, kept}
+use Rattle.host.specs.State.{is_running, kept_run}
 use Rattle.host.specs.Calls as Calls
 use Rattle.host.specs.Calls.{to_host, to_terminal}
 use Rattle.host.specs.Interaction.{Interaction, done, bind, call}
@@ -49,79 +50,79 @@ Part = Interaction (TaskView × Result ⊤ Fault)
 
 -- Resume: a paused signal is forgotten, and the child, if one runs, is continued; a fault is ignored.
 
-abbrev pub not_paused : TaskView → TaskView
-not_paused t = record t { foreground = record t.foreground { paused = None } }
+abbrev pub forget_pause : TaskView → TaskView
+forget_pause t = record t { foreground = record t.foreground { paused = None } }
 
-abbrev pub resumed : Option ℕ → CommandState → TaskView → Interaction TaskView
-resumed None s t = done t
-resumed (Some p) (Running child started) t = bind (call (to_host (Calls.cont child))) (λ _. done (not_paused t))
-resumed (Some p) s t = done (not_paused t)
+abbrev pub resume_by : Option ℕ → CommandState → TaskView → Interaction TaskView
+resume_by None s t = done t
+resume_by (Some p) (Running child run_child) t = bind (call (to_host (Calls.cont child))) (λ _. done (forget_pause t))
+resume_by (Some p) s t = done (forget_pause t)
 
 abbrev pub resume : TaskView → Interaction TaskView
-resume t = resumed t.foreground.paused t.state t
+resume t = resume_by t.foreground.paused t.state t
 
 -- Yield: the watch ends, and a held grant is released.
 
-abbrev pub unwatched : TaskView → TaskView
-unwatched t = record t { foreground = record t.foreground { watch = false; grant = false } }
+abbrev pub end_watch : TaskView → TaskView
+end_watch t = record t { foreground = record t.foreground { watch = false; grant = false } }
 
-abbrev pub yielded : Bool → TaskView → Interaction TaskView
-yielded false t = done (unwatched t)
-yielded true t = bind (call (to_terminal Calls.release)) (λ _. done (unwatched t))
+abbrev pub yield_if : Bool → TaskView → Interaction TaskView
+yield_if false t = done (end_watch t)
+yield_if true t = bind (call (to_terminal Calls.release)) (λ _. done (end_watch t))
 
 abbrev pub yield : TaskView → Interaction TaskView
-yield t = yielded t.foreground.grant t
+yield t = yield_if t.foreground.grant t
 
 -- End by force: kill, then wait; the child has then finished. A fault leaves it running.
 
-abbrev pub waited : ℕ → ℕ → TaskView → Result ProcessEnd Fault → TaskView × Result ⊤ Fault
-waited started time t (Ok end) = (in_state (Finished end started time) t, Ok tt)
-waited started time t (Err fault) = (t, Err fault)
+abbrev pub after_wait : ℕ → ℕ → TaskView → Result ProcessEnd Fault → TaskView × Result ⊤ Fault
+after_wait run_child time t (Ok end) = (in_state (Finished end run_child time) t, Ok tt)
+after_wait run_child time t (Err fault) = (t, Err fault)
 
-abbrev pub killed : ℕ → ℕ → ℕ → TaskView → Result ⊤ Fault → Part
-killed child started time t (Ok u) = bind (call (to_host (Calls.wait child))) (λ a. done (waited started time t a))
-killed child started time t (Err fault) = done (t, Err fault)
+abbrev pub after_kill : ℕ → ℕ → ℕ → TaskView → Result ⊤ Fault → Part
+after_kill child run_child time t (Ok u) = bind (call (to_host (Calls.wait child))) (λ a. done (after_wait run_child time t a))
+after_kill child run_child time t (Err fault) = done (t, Err fault)
 
 abbrev pub end_by_force : ℕ → ℕ → ℕ → TaskView → Part
-end_by_force child started time t = bind (call (to_host (Calls.kill child))) (killed child started time t)
+end_by_force child run_child time t = bind (call (to_host (Calls.kill child))) (after_kill child run_child time t)
 
 -- Launch: the state is reset and kept as the previous one; a hook, if set, is told both and answers the options, the command's
 -- where it faults; spawn. A child that is granted runs, is not paused, has no pauses waiting, and is watched exactly if the
 -- command has grant_foreground.
 
 abbrev pub reset : ℕ → TaskView → TaskView
-reset time t = record t { state = Pending; previous = Some (kept time t.state) }
+reset time t = record t { state = Pending; previous = Some (kept_run time t.state) }
 
-abbrev pub hooked : Option ℕ → TaskView → Interaction SpawnOptions
-hooked None t = done t.command.options
-hooked (Some n) t = bind (call (to_host (Calls.hook n t.state t.previous))) (λ a. done (result_unwrap_or a t.command.options))
+abbrev pub ask_hook : Option ℕ → TaskView → Interaction SpawnOptions
+ask_hook None t = done t.command.options
+ask_hook (Some n) t = bind (call (to_host (Calls.hook n t.state t.previous))) (λ a. done (result_unwrap_or a t.command.options))
 
 abbrev pub spawn_options : TaskView → Interaction SpawnOptions
-spawn_options t = hooked t.settings.hook t
+spawn_options t = ask_hook t.settings.hook t
 
-abbrev pub started : ℕ → ℕ → TaskView → TaskView
-started child time t =
+abbrev pub run_child : ℕ → ℕ → TaskView → TaskView
+run_child child time t =
     record t { state = Running child time; foreground = record t.foreground { paused = None; pauses = []; watch = t.command.options.grant_foreground } }
 
-abbrev pub spawned : ℕ → TaskView → Result ℕ Fault → TaskView × Result ⊤ Fault
-spawned time t (Ok child) = (started child time t, Ok tt)
-spawned time t (Err fault) = (t, Err fault)
+abbrev pub after_spawn : ℕ → TaskView → Result ℕ Fault → TaskView × Result ⊤ Fault
+after_spawn time t (Ok child) = (run_child child time t, Ok tt)
+after_spawn time t (Err fault) = (t, Err fault)
 
 abbrev pub spawn : ℕ → TaskView → SpawnOptions → Part
-spawn time t options = bind (call (to_host (Calls.spawn t.command.program options t.settings.way time))) (λ a. done (spawned time t a))
+spawn time t options = bind (call (to_host (Calls.spawn t.command.program options t.settings.way time))) (λ a. done (after_spawn time t a))
 
 abbrev pub launch : ℕ → TaskView → Part
 launch time t = bind (spawn_options (reset time t)) (spawn time (reset time t))
 
 -- A fault is told to the handler, if one is set; a fault of telling is ignored.
 
-abbrev pub told : Option ℕ → Result ⊤ Fault → Interaction ⊤
-told handler (Ok u) = done tt
-told None (Err fault) = done tt
-told (Some n) (Err fault) = bind (call (to_host (Calls.tell n fault))) (λ _. done tt)
+abbrev pub tell_fault : Option ℕ → Result ⊤ Fault → Interaction ⊤
+tell_fault handler (Ok u) = done tt
+tell_fault None (Err fault) = done tt
+tell_fault (Some n) (Err fault) = bind (call (to_host (Calls.tell n fault))) (λ _. done tt)
 
-abbrev pub reported : Part → Part
-reported part = bind part (λ x. bind (told x.0.settings.handler x.1) (λ _. done x))
+abbrev pub report : Part → Part
+report part = bind part (λ x. bind (tell_fault x.0.settings.handler x.1) (λ _. done x))
 
 -- A signal to the child.
 
@@ -129,8 +130,8 @@ abbrev pub send_signal : ℕ → ℕ → TaskView → Part
 send_signal child s t = bind (call (to_host (Calls.signal child s))) (λ a. done (t, a))
 
 -- 0 is sent as 15
-abbrev pub sent_as : ℕ → ℕ
-sent_as s = if s == 0 then 15 else s
+abbrev pub number_sent : ℕ → ℕ
+number_sent s = if s == 0 then 15 else s
 
 -- CONTROLS
 
@@ -143,28 +144,28 @@ abbrev pub unless_faulted : Outcome → Result ⊤ Fault → Outcome
 unless_faulted o r = if is_ok r then o else Settled
 
 -- a control that launched: whether a fault was told or not
-abbrev pub launched : ℕ → Outcome → TaskView → Course Outcome
-launched time o t = bind (reported (launch time t)) (λ x. done (x.0, o))
+abbrev pub begin : ℕ → Outcome → TaskView → Course Outcome
+begin time o t = bind (report (launch time t)) (λ x. done (x.0, o))
 
 abbrev pub start_unless : Bool → ℕ → TaskView → Course Outcome
 start_unless true time t = done (t, Settled)
-start_unless false time t = launched time Settled t
+start_unless false time t = begin time Settled t
 
 -- what ends or replaces the child resumes and yields first
 abbrev pub make_way : TaskView → Interaction TaskView
 make_way t = bind (resume t) yield
 
 abbrev pub stop_in : CommandState → ℕ → TaskView → Course Outcome
-stop_in (Running child began) time t = bind (reported (end_by_force child began time t)) (λ x. done (x.0, unless_faulted Ended x.1))
+stop_in (Running child began) time t = bind (report (end_by_force child began time t)) (λ x. done (x.0, unless_faulted Ended x.1))
 stop_in s time t = done (t, Settled)
 
 -- the child is ended by force, and another one started
-abbrev pub replaced : ℕ → TaskView × Result ⊤ Fault → Course Outcome
-replaced time (t, Ok u) = launched time Ended t
-replaced time (t, Err fault) = done (t, Settled)
+abbrev pub replace_after : ℕ → TaskView × Result ⊤ Fault → Course Outcome
+replace_after time (t, Ok u) = begin time Ended t
+replace_after time (t, Err fault) = done (t, Settled)
 
 abbrev pub replace : ℕ → ℕ → ℕ → TaskView → Course Outcome
-replace child began time t = bind (reported (end_by_force child began time t)) (replaced time)
+replace child began time t = bind (report (end_by_force child began time t)) (replace_after time)
 
 abbrev pub restart_in : CommandState → ℕ → TaskView → Course Outcome
 restart_in (Running child began) time t = replace child began time t
@@ -173,11 +174,11 @@ restart_in s time t = done (t, Settled)
 -- the continuation of a graceful restart starts a child whether one ran or not
 abbrev pub continue_in : CommandState → ℕ → TaskView → Course Outcome
 continue_in (Running child began) time t = replace child began time t
-continue_in s time t = launched time Settled t
+continue_in s time t = begin time Settled t
 
 -- a running child is sent the signal, and o is the outcome
 abbrev pub signal_in : CommandState → ℕ → Outcome → TaskView → Course Outcome
-signal_in (Running child began) s o t = bind (reported (send_signal child (sent_as s) t)) (λ x. done (x.0, unless_faulted o x.1))
+signal_in (Running child began) s o t = bind (report (send_signal child (number_sent s) t)) (λ x. done (x.0, unless_faulted o x.1))
 signal_in state s o t = done (t, Settled)
 
 -- the child is asked to end, and a grace runs
@@ -220,16 +221,16 @@ control ClearSpawnFn time t = with_settings (record t.settings { way = 0 }) t
 -- once the child has ended: another one is started, if a restart is remembered
 abbrev pub follow : Bool → ℕ → TaskView → Course PollOutcome
 follow false time t = done (t, Over)
-follow true time t = bind (reported (launch time t)) (λ x. done (x.0, if is_ok x.1 then Renewed else Over))
+follow true time t = bind (report (launch time t)) (λ x. done (x.0, if is_ok x.1 then Renewed else Over))
 
 -- a child that ended has finished, and the terminal is yielded; a fault is told
-abbrev pub polled : Bool → ℕ → ℕ → TaskView → Result (Option ProcessEnd) Fault → Course PollOutcome
-polled restart began time t (Ok None) = done (t, Idle)
-polled restart began time t (Ok (Some end)) = bind (yield (in_state (Finished end began time) t)) (follow restart time)
-polled restart began time t (Err fault) = bind (told t.settings.handler (Err fault)) (λ _. done (t, Faulted))
+abbrev pub after_poll : Bool → ℕ → ℕ → TaskView → Result (Option ProcessEnd) Fault → Course PollOutcome
+after_poll restart began time t (Ok None) = done (t, Idle)
+after_poll restart began time t (Ok (Some end)) = bind (yield (in_state (Finished end began time) t)) (follow restart time)
+after_poll restart began time t (Err fault) = bind (tell_fault t.settings.handler (Err fault)) (λ _. done (t, Faulted))
 
 abbrev pub poll_in : CommandState → Bool → ℕ → TaskView → Course PollOutcome
-poll_in (Running child began) restart time t = bind (call (to_host (Calls.poll child))) (polled restart began time t)
+poll_in (Running child began) restart time t = bind (call (to_host (Calls.poll child))) (after_poll restart began time t)
 poll_in s restart time t = done (t, Idle)
 
 -- `restart` says whether a restart is remembered
@@ -241,8 +242,8 @@ poll_child restart time t = poll_in t.state restart time t
 abbrev pub with_grant : Bool → TaskView → TaskView
 with_grant held t = record t { foreground = record t.foreground { grant = held } }
 
-abbrev pub paused_by : ℕ → TaskView → TaskView
-paused_by signal t = record t { foreground = record t.foreground { paused = Some signal } }
+abbrev pub mark_paused : ℕ → TaskView → TaskView
+mark_paused signal t = record t { foreground = record t.foreground { paused = Some signal } }
 
 abbrev pub with_pauses : List ℕ → TaskView → TaskView
 with_pauses signals t = record t { foreground = record t.foreground { pauses = signals } }
@@ -254,12 +255,12 @@ abbrev pub is_ours : ℕ → ℕ → Option ℕ → Bool
 is_ours own child None = false
 is_ours own child (Some group) = group == own || group == child
 
-abbrev pub acquired : TaskView → Result ⊤ Fault → TaskView
-acquired t r = if is_ok r then with_grant true t else t
+abbrev pub after_acquire : TaskView → Result ⊤ Fault → TaskView
+after_acquire t r = if is_ok r then with_grant true t else t
 
 abbrev pub acquire_if : Bool → ℕ → TaskView → Interaction TaskView
 acquire_if false child t = done t
-acquire_if true child t = bind (call (to_terminal (Calls.acquire child))) (λ a. done (acquired t a))
+acquire_if true child t = bind (call (to_terminal (Calls.acquire child))) (λ a. done (after_acquire t a))
 
 abbrev pub try_grant : ℕ → ℕ → TaskView → Interaction TaskView
 try_grant own child t = bind (call (to_terminal Calls.owner)) (λ group. acquire_if (is_ours own child group) child t)
@@ -269,33 +270,33 @@ try_grant_if false own child t = done t
 try_grant_if true own child t = try_grant own child t
 
 -- 18, the child goes on: it is paused no more, and gets a grant if one is wanted and none is held
-abbrev pub pause_ended : ℕ → ℕ → TaskView → Interaction TaskView
-pause_ended own child t = try_grant_if (wants_grant t.command && not t.foreground.grant) own child (not_paused t)
+abbrev pub on_continue : ℕ → ℕ → TaskView → Interaction TaskView
+on_continue own child t = try_grant_if (wants_grant t.command && not t.foreground.grant) own child (forget_pause t)
 
 -- 21 and 22, the child wants the terminal: if a grant is wanted and none is held, one is tried, and then the child is continued; it
 -- stays paused where that faults, and where no grant is wanted
 
-abbrev pub continued : ℕ → TaskView → Result ⊤ Fault → TaskView
-continued signal t (Ok u) = not_paused t
-continued signal t (Err fault) = paused_by signal t
+abbrev pub after_cont : ℕ → TaskView → Result ⊤ Fault → TaskView
+after_cont signal t (Ok u) = forget_pause t
+after_cont signal t (Err fault) = mark_paused signal t
 
 abbrev pub continue_child : ℕ → ℕ → TaskView → Interaction TaskView
-continue_child child signal t = bind (call (to_host (Calls.cont child))) (λ a. done (continued signal t a))
+continue_child child signal t = bind (call (to_host (Calls.cont child))) (λ a. done (after_cont signal t a))
 
-abbrev pub terminal_wanted : Bool → ℕ → ℕ → ℕ → TaskView → Interaction TaskView
-terminal_wanted false own child signal t = done (paused_by signal t)
-terminal_wanted true own child signal t = bind (try_grant_if (not t.foreground.grant) own child t) (continue_child child signal)
+abbrev pub on_terminal_use : Bool → ℕ → ℕ → ℕ → TaskView → Interaction TaskView
+on_terminal_use false own child signal t = done (mark_paused signal t)
+on_terminal_use true own child signal t = bind (try_grant_if (not t.foreground.grant) own child t) (continue_child child signal)
 
 -- any other, the child is paused: a held grant is released
-abbrev pub pause_begun : Bool → ℕ → TaskView → Interaction TaskView
-pause_begun false signal t = done (paused_by signal t)
-pause_begun true signal t = bind (call (to_terminal Calls.release)) (λ _. done (paused_by signal (with_grant false t)))
+abbrev pub on_stop : Bool → ℕ → TaskView → Interaction TaskView
+on_stop false signal t = done (mark_paused signal t)
+on_stop true signal t = bind (call (to_terminal Calls.release)) (λ _. done (mark_paused signal (with_grant false t)))
 
 abbrev pub take_pause : ℕ → ℕ → ℕ → TaskView → Interaction TaskView
 take_pause own child signal t =
-    if signal == 18 then pause_ended own child t
-    else if signal == 21 || signal == 22 then terminal_wanted (wants_grant t.command) own child signal t
-    else pause_begun t.foreground.grant signal t
+    if signal == 18 then on_continue own child t
+    else if signal == 21 || signal == 22 then on_terminal_use (wants_grant t.command) own child signal t
+    else on_stop t.foreground.grant signal t
 
 -- the oldest pause is taken while a child runs, and answered; none is where no child runs or no pause waits
 abbrev pub pause_in : CommandState → List ℕ → ℕ → TaskView → Course (Option ℕ)
@@ -319,14 +320,14 @@ is_graced (Graced grace end) = true
 is_graced o = false
 
 -- only a control that sets a timer ends with it
-abbrev pub Timed : Control → Outcome → Type 0
-Timed c o = is_graced o ≡ true → sets_timer c ≡ true
+abbrev pub MaySetTimer : Control → Outcome → Type 0
+MaySetTimer c o = is_graced o ≡ true → sets_timer c ≡ true
 
 -- the children of a state: the one that runs, if one does
-abbrev pub children : CommandState → List ℕ
-children (Running child began) = child ∷ []
-children s = []
+abbrev pub children : CommandState → Roster
+children (Running child began) = one_child child
+children s = no_child
 
 -- a grant is held only while a child runs
-abbrev pub Granted : TaskView → Type 0
-Granted t = t.foreground.grant ≡ true → is_running t.state ≡ true
+abbrev pub GrantMeansRunning : TaskView → Type 0
+GrantMeansRunning t = t.foreground.grant ≡ true → is_running t.state ≡ true

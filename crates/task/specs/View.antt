@@ -1,5 +1,5 @@
 -- What a task holds, as the interaction trees speak of it.
-use Rattle.ring.specs.Queue.{held}
+use Rattle.ring.specs.Queue.{items_of}
 use Rattle.task.specs.declared.task.Task.{Task}
 use Rattle.task.specs.Task.{TaskView}
 
@@ -9,5 +9,5 @@ task_view t = record {
   settings = t.settings;
   state = t.state;
   previous = t.previous;
-  foreground = record { paused = t.foreground.paused; pauses = held t.foreground.pauses; watch = t.foreground.watch; grant = t.foreground.grant };
+  foreground = record { paused = t.foreground.paused; pauses = items_of t.foreground.pauses; watch = t.foreground.watch; grant = t.foreground.grant };
 }

@@ -2,7 +2,7 @@
 // what is recorded as closures, which its contract had to tie to the call, and would be no shorter where it is called.
 ghost use Rattle.host.specs.Calls as Calls;
 ghost use Rattle.host.specs.Journal as Journal;
-ghost use Rattle.task.specs.Performs.{Asks, Records, Room};
+ghost use Rattle.task.specs.Performs.{AsksHost, AsksTerminal, Records, HasRoom};
 
 use crate::step::Step;
 use host::command::SpawnOptions;
@@ -15,8 +15,8 @@ use host::terminal::Terminal;
 impl<H: Host, T: Terminal> Step<'_, H, T> {
     // Records a call and its answer in the next place of the sheet.
     fn record(&mut self, call: CallKind, child: u32, number: u32, answer: Answer)
-        requires { Room 1 self.old }
-        ensures { Records (Journal.entry call child number answer) self.old self.new }
+        requires { HasRoom 1 self.old }
+        ensures { Records (Journal.journal_record call child number answer) self.old self.new }
     {
         self.sheet[self.used] = Record {
             call,
@@ -34,8 +34,9 @@ impl<H: Host, T: Terminal> Step<'_, H, T> {
         way: u8,
         time: u64,
     ) -> Result<u32, Fault>
-        requires { Room 1 self.old }
-        ensures { Asks H.Host T.Terminal (Calls.to_host (Calls.spawn program options way time)) self.old result self.new }
+        requires { HasRoom 1 self.old }
+        ensures { AsksHost H.Host T.Terminal (Calls.spawn program options way time)
+            self.old result self.new }
     {
         let reply = self.host.spawn(program, options, way, time);
         let answer = reply.map_or_else(Answer::Fault, Answer::Child);
@@ -44,8 +45,8 @@ impl<H: Host, T: Terminal> Step<'_, H, T> {
     }
 
     pub(crate) fn poll(&mut self, child: u32) -> Result<Option<ProcessEnd>, Fault>
-        requires { Room 1 self.old }
-        ensures { Asks H.Host T.Terminal (Calls.to_host (Calls.poll child)) self.old result self.new }
+        requires { HasRoom 1 self.old }
+        ensures { AsksHost H.Host T.Terminal (Calls.poll child) self.old result self.new }
     {
         let reply = self.host.poll(child);
         let answer = reply.map_or_else(Answer::Fault, |end| {
@@ -56,8 +57,8 @@ impl<H: Host, T: Terminal> Step<'_, H, T> {
     }
 
     pub(crate) fn wait(&mut self, child: u32) -> Result<ProcessEnd, Fault>
-        requires { Room 1 self.old }
-        ensures { Asks H.Host T.Terminal (Calls.to_host (Calls.wait child)) self.old result self.new }
+        requires { HasRoom 1 self.old }
+        ensures { AsksHost H.Host T.Terminal (Calls.wait child) self.old result self.new }
     {
         let reply = self.host.wait(child);
         let answer = reply.map_or_else(Answer::Fault, Answer::End);
@@ -66,8 +67,8 @@ impl<H: Host, T: Terminal> Step<'_, H, T> {
     }
 
     pub(crate) fn kill(&mut self, child: u32) -> Result<(), Fault>
-        requires { Room 1 self.old }
-        ensures { Asks H.Host T.Terminal (Calls.to_host (Calls.kill child)) self.old result self.new }
+        requires { HasRoom 1 self.old }
+        ensures { AsksHost H.Host T.Terminal (Calls.kill child) self.old result self.new }
     {
         let reply = self.host.kill(child);
         self.record(CallKind::Kill, child, 0, reply.into());
@@ -75,8 +76,8 @@ impl<H: Host, T: Terminal> Step<'_, H, T> {
     }
 
     pub(crate) fn signal(&mut self, child: u32, signal: u8) -> Result<(), Fault>
-        requires { Room 1 self.old }
-        ensures { Asks H.Host T.Terminal (Calls.to_host (Calls.signal child signal)) self.old result self.new }
+        requires { HasRoom 1 self.old }
+        ensures { AsksHost H.Host T.Terminal (Calls.signal child signal) self.old result self.new }
     {
         let reply = self.host.signal(child, signal);
         self.record(CallKind::Signal, child, u32::from(signal), reply.into());
@@ -84,8 +85,8 @@ impl<H: Host, T: Terminal> Step<'_, H, T> {
     }
 
     pub(crate) fn cont(&mut self, child: u32) -> Result<(), Fault>
-        requires { Room 1 self.old }
-        ensures { Asks H.Host T.Terminal (Calls.to_host (Calls.cont child)) self.old result self.new }
+        requires { HasRoom 1 self.old }
+        ensures { AsksHost H.Host T.Terminal (Calls.cont child) self.old result self.new }
     {
         let reply = self.host.cont(child);
         self.record(CallKind::Cont, child, 0, reply.into());
@@ -93,8 +94,8 @@ impl<H: Host, T: Terminal> Step<'_, H, T> {
     }
 
     pub(crate) fn let_go(&mut self, child: u32)
-        requires { Room 1 self.old }
-        ensures { Asks H.Host T.Terminal (Calls.to_host (Calls.let_go child)) self.old tt self.new }
+        requires { HasRoom 1 self.old }
+        ensures { AsksHost H.Host T.Terminal (Calls.let_go child) self.old tt self.new }
     {
         self.host.let_go(child);
         self.record(CallKind::LetGo, child, 0, Answer::Nothing);
@@ -106,8 +107,9 @@ impl<H: Host, T: Terminal> Step<'_, H, T> {
         state: CommandState,
         previous: Option<CommandState>,
     ) -> Result<SpawnOptions, Fault>
-        requires { Room 1 self.old }
-        ensures { Asks H.Host T.Terminal (Calls.to_host (Calls.hook number state previous)) self.old result self.new }
+        requires { HasRoom 1 self.old }
+        ensures { AsksHost H.Host T.Terminal (Calls.hook number state previous)
+            self.old result self.new }
     {
         let reply = self.host.hook(number, state, previous);
         let answer = reply.map_or_else(Answer::Fault, Answer::Options);
@@ -121,8 +123,9 @@ impl<H: Host, T: Terminal> Step<'_, H, T> {
         state: CommandState,
         previous: Option<CommandState>,
     ) -> Result<(), Fault>
-        requires { Room 1 self.old }
-        ensures { Asks H.Host T.Terminal (Calls.to_host (Calls.routine number state previous)) self.old result self.new }
+        requires { HasRoom 1 self.old }
+        ensures { AsksHost H.Host T.Terminal (Calls.routine number state previous)
+            self.old result self.new }
     {
         let reply = self.host.routine(number, state, previous);
         self.record(CallKind::Routine, 0, u32::from(number), reply.into());
@@ -130,8 +133,8 @@ impl<H: Host, T: Terminal> Step<'_, H, T> {
     }
 
     pub(crate) fn tell(&mut self, handler: u8, fault: Fault) -> Result<(), Fault>
-        requires { Room 1 self.old }
-        ensures { Asks H.Host T.Terminal (Calls.to_host (Calls.tell handler fault)) self.old result self.new }
+        requires { HasRoom 1 self.old }
+        ensures { AsksHost H.Host T.Terminal (Calls.tell handler fault) self.old result self.new }
     {
         let reply = self.host.tell(handler, fault);
         self.record(CallKind::Tell, 0, u32::from(fault.code), reply.into());
@@ -139,8 +142,8 @@ impl<H: Host, T: Terminal> Step<'_, H, T> {
     }
 
     pub(crate) fn owner(&mut self) -> Option<u32>
-        requires { Room 1 self.old }
-        ensures { Asks H.Host T.Terminal (Calls.to_terminal Calls.owner) self.old result self.new }
+        requires { HasRoom 1 self.old }
+        ensures { AsksTerminal H.Host T.Terminal Calls.owner self.old result self.new }
     {
         let reply = self.terminal.owner();
         let answer = reply.map_or(Answer::Nothing, Answer::Group);
@@ -149,8 +152,8 @@ impl<H: Host, T: Terminal> Step<'_, H, T> {
     }
 
     pub(crate) fn acquire(&mut self, group: u32) -> Result<(), Fault>
-        requires { Room 1 self.old }
-        ensures { Asks H.Host T.Terminal (Calls.to_terminal (Calls.acquire group)) self.old result self.new }
+        requires { HasRoom 1 self.old }
+        ensures { AsksTerminal H.Host T.Terminal (Calls.acquire group) self.old result self.new }
     {
         let reply = self.terminal.acquire(group);
         self.record(CallKind::Acquire, 0, group, reply.into());
@@ -158,8 +161,8 @@ impl<H: Host, T: Terminal> Step<'_, H, T> {
     }
 
     pub(crate) fn release(&mut self)
-        requires { Room 1 self.old }
-        ensures { Asks H.Host T.Terminal (Calls.to_terminal Calls.release) self.old tt self.new }
+        requires { HasRoom 1 self.old }
+        ensures { AsksTerminal H.Host T.Terminal Calls.release self.old tt self.new }
     {
         self.terminal.release();
         self.record(CallKind::Release, 0, 0, Answer::Nothing);

@@ -1,6 +1,6 @@
 // The controls: what each does to the task, on a host and a terminal, and what becomes of its ticket.
 ghost use Rattle.std.specs.Prelude.{◌≡◌};
-ghost use Rattle.task.specs.Performs.{Performs, Room, task_of};
+ghost use Rattle.task.specs.Performs.{HasRoom, PerformsChange, PerformsPart, task_of};
 ghost use Rattle.task.specs.Task as Tree;
 
 use crate::messages::{Control, GraceEnd};
@@ -25,7 +25,7 @@ impl Outcome {
 
 // A signal of 0 is sent as 15.
 fn sent_as(signal: u8) -> u8
-    ensures { result ≡ Tree.sent_as signal }
+    ensures { result ≡ Tree.number_sent signal }
 {
     if signal == 0 { 15 } else { signal }
 }
@@ -33,8 +33,9 @@ fn sent_as(signal: u8) -> u8
 impl<H: Host, T: Terminal> Step<'_, H, T> {
     // Starts a child; the outcome is the same where that faults.
     fn begin(&mut self, outcome: Outcome) -> Outcome
-        requires { Room 3 self.old }
-        ensures { Performs H.Host T.Terminal 3 (Tree.launched self.old.time outcome (task_of self.old)) self.old (task_of self.new, result) self.new }
+        requires { HasRoom 3 self.old }
+        ensures { PerformsPart H.Host T.Terminal 3 (Tree.begin self.old.time outcome)
+            self.old result self.new }
     {
         let launched = self.launch();
         self.report(launched);
@@ -43,8 +44,8 @@ impl<H: Host, T: Terminal> Step<'_, H, T> {
 
     // Sees to the pause and the terminal before the child is ended.
     fn make_way(&mut self)
-        requires { Room 2 self.old }
-        ensures { Performs H.Host T.Terminal 2 (Tree.make_way (task_of self.old)) self.old (task_of self.new) self.new }
+        requires { HasRoom 2 self.old }
+        ensures { PerformsChange H.Host T.Terminal 2 Tree.make_way self.old self.new }
     {
         self.resume();
         self.yield_foreground();
@@ -52,8 +53,9 @@ impl<H: Host, T: Terminal> Step<'_, H, T> {
 
     // Ends the child by force and starts another one.
     fn replace(&mut self, child: u32, started: u64) -> Outcome
-        requires { Room 6 self.old }
-        ensures { Performs H.Host T.Terminal 6 (Tree.replace child started self.old.time (task_of self.old)) self.old (task_of self.new, result) self.new }
+        requires { HasRoom 6 self.old }
+        ensures { PerformsPart H.Host T.Terminal 6 (Tree.replace child started self.old.time)
+            self.old result self.new }
     {
         let forced = self.end_by_force(child, started);
         self.report(forced);
@@ -65,8 +67,9 @@ impl<H: Host, T: Terminal> Step<'_, H, T> {
 
     // Starts the command if no child runs.
     fn start(&mut self) -> Outcome
-        requires { Room 3 self.old }
-        ensures { Performs H.Host T.Terminal 3 (Tree.control Control.Start self.old.time (task_of self.old)) self.old (task_of self.new, result) self.new }
+        requires { HasRoom 3 self.old }
+        ensures { PerformsPart H.Host T.Terminal 3 (Tree.control Control.Start self.old.time)
+            self.old result self.new }
     {
         if self.task.state.is_running() {
             return Outcome::Settled;
@@ -76,8 +79,9 @@ impl<H: Host, T: Terminal> Step<'_, H, T> {
 
     // Ends the child by force, if one runs; the pause and the terminal were seen to.
     fn stop_child(&mut self) -> Outcome
-        requires { Room 3 self.old }
-        ensures { Performs H.Host T.Terminal 3 (Tree.stop_in (task_of self.old).state self.old.time (task_of self.old)) self.old (task_of self.new, result) self.new }
+        requires { HasRoom 3 self.old }
+        ensures { PerformsPart H.Host T.Terminal 3
+            (Tree.stop_in (task_of self.old).state self.old.time) self.old result self.new }
     {
         let CommandState::Running { child, started } = self.task.state else {
             return Outcome::Settled;
@@ -89,8 +93,9 @@ impl<H: Host, T: Terminal> Step<'_, H, T> {
 
     // Ends the child by force, if one runs.
     fn stop(&mut self) -> Outcome
-        requires { Room 5 self.old }
-        ensures { Performs H.Host T.Terminal 5 (Tree.control Control.Stop self.old.time (task_of self.old)) self.old (task_of self.new, result) self.new }
+        requires { HasRoom 5 self.old }
+        ensures { PerformsPart H.Host T.Terminal 5 (Tree.control Control.Stop self.old.time)
+            self.old result self.new }
     {
         self.make_way();
         self.stop_child()
@@ -98,8 +103,9 @@ impl<H: Host, T: Terminal> Step<'_, H, T> {
 
     // Replaces the child, if one runs.
     fn try_restart(&mut self) -> Outcome
-        requires { Room 8 self.old }
-        ensures { Performs H.Host T.Terminal 8 (Tree.control Control.TryRestart self.old.time (task_of self.old)) self.old (task_of self.new, result) self.new }
+        requires { HasRoom 8 self.old }
+        ensures { PerformsPart H.Host T.Terminal 8 (Tree.control Control.TryRestart self.old.time)
+            self.old result self.new }
     {
         self.make_way();
         let CommandState::Running { child, started } = self.task.state else {
@@ -110,8 +116,9 @@ impl<H: Host, T: Terminal> Step<'_, H, T> {
 
     // Replaces the child, if one runs, and starts one otherwise.
     fn continue_restart(&mut self) -> Outcome
-        requires { Room 8 self.old }
-        ensures { Performs H.Host T.Terminal 8 (Tree.control Control.ContinueTryGracefulRestart self.old.time (task_of self.old)) self.old (task_of self.new, result) self.new }
+        requires { HasRoom 8 self.old }
+        ensures { PerformsPart H.Host T.Terminal 8 (Tree.control Control.ContinueTryGracefulRestart
+            self.old.time) self.old result self.new }
     {
         self.make_way();
         let CommandState::Running { child, started } = self.task.state else {
@@ -122,8 +129,9 @@ impl<H: Host, T: Terminal> Step<'_, H, T> {
 
     // Sends the child a signal, if one runs; `sent` is the outcome where the host takes it.
     fn signal_child(&mut self, signal: u8, sent: Outcome) -> Outcome
-        requires { Room 2 self.old }
-        ensures { Performs H.Host T.Terminal 2 (Tree.signal_in (task_of self.old).state signal sent (task_of self.old)) self.old (task_of self.new, result) self.new }
+        requires { HasRoom 2 self.old }
+        ensures { PerformsPart H.Host T.Terminal 2
+            (Tree.signal_in (task_of self.old).state signal sent) self.old result self.new }
     {
         let CommandState::Running { child, .. } = self.task.state else {
             return Outcome::Settled;
@@ -135,8 +143,9 @@ impl<H: Host, T: Terminal> Step<'_, H, T> {
 
     // Asks the child to end, and leaves it a grace.
     fn end_gracefully(&mut self, signal: u8, grace: u32, end: GraceEnd) -> Outcome
-        requires { Room 3 self.old }
-        ensures { Performs H.Host T.Terminal 3 (Tree.end_gracefully signal grace end (task_of self.old)) self.old (task_of self.new, result) self.new }
+        requires { HasRoom 3 self.old }
+        ensures { PerformsPart H.Host T.Terminal 3 (Tree.end_gracefully signal grace end)
+            self.old result self.new }
     {
         self.resume();
         self.signal_child(signal, Outcome::Graced { grace, end })
@@ -144,8 +153,9 @@ impl<H: Host, T: Terminal> Step<'_, H, T> {
 
     // Yields the terminal, and lets the child go, if one runs.
     fn delete(&mut self) -> Outcome
-        requires { Room 2 self.old }
-        ensures { Performs H.Host T.Terminal 2 (Tree.control Control.Delete self.old.time (task_of self.old)) self.old (task_of self.new, result) self.new }
+        requires { HasRoom 2 self.old }
+        ensures { PerformsPart H.Host T.Terminal 2 (Tree.control Control.Delete self.old.time)
+            self.old result self.new }
     {
         self.yield_foreground();
         if let CommandState::Running { child, .. } = self.task.state {
@@ -167,8 +177,9 @@ impl<H: Host, T: Terminal> Step<'_, H, T> {
 
     // Runs a routine of the host; a fault is ignored.
     fn run_routine(&mut self, routine: u8) -> Outcome
-        requires { Room 1 self.old }
-        ensures { Performs H.Host T.Terminal 1 (Tree.control (Control.Func routine) self.old.time (task_of self.old)) self.old (task_of self.new, result) self.new }
+        requires { HasRoom 1 self.old }
+        ensures { PerformsPart H.Host T.Terminal 1
+            (Tree.control (Control.Func routine) self.old.time) self.old result self.new }
     {
         let _ = self.routine(routine, self.task.state, self.task.previous);
         Outcome::Settled
@@ -176,7 +187,8 @@ impl<H: Host, T: Terminal> Step<'_, H, T> {
 
     // Changes the settings.
     fn set(&mut self, settings: Settings) -> Outcome
-        ensures { Performs H.Host T.Terminal 0 (Tree.with_settings settings (task_of self.old)) self.old (task_of self.new, result) self.new }
+        ensures { PerformsPart H.Host T.Terminal 0 (Tree.with_settings settings)
+            self.old result self.new }
     {
         self.task.settings = settings;
         Outcome::Settled
@@ -184,8 +196,9 @@ impl<H: Host, T: Terminal> Step<'_, H, T> {
 
     // Carries a control out. It is a message from a queue, and so no closure.
     pub(crate) fn carry_out(&mut self, control: Control) -> Outcome
-        requires { Room 8 self.old }
-        ensures { Performs H.Host T.Terminal 8 (Tree.control control self.old.time (task_of self.old)) self.old (task_of self.new, result) self.new }
+        requires { HasRoom 8 self.old }
+        ensures { PerformsPart H.Host T.Terminal 8 (Tree.control control self.old.time)
+            self.old result self.new }
     {
         let settings = self.task.settings;
         match control {

@@ -1,6 +1,6 @@
 // The controls of a job, and the messages that carry them.
 ghost use Rattle.std.specs.Prelude.{◌≡◌};
-ghost use Rattle.task.specs.Messages.{at_end, orders};
+ghost use Rattle.task.specs.Messages.{control_at_end, orders};
 
 // What a job can be told to do. A grace is in milliseconds; routine, error handler, spawn hook and way of spawning are numbers. The
 // default fills slots of a queue that no message has.
@@ -50,7 +50,7 @@ pub enum GraceEnd {
 
 // The control that the timer of such a grace brings.
 impl From<GraceEnd> for Control {
-    ghost from_gives = { λ end control. control ≡ at_end end };
+    ghost from_gives = { λ end control. control ≡ control_at_end end };
 
     fn from(end: GraceEnd) -> Control {
         match end {

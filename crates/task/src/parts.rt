@@ -1,6 +1,6 @@
 // The parts that controls and the poll of the child are made of.
 ghost use Rattle.std.specs.Prelude.{◌≡◌, Some};
-ghost use Rattle.task.specs.Performs.{Performs, Room, task_of};
+ghost use Rattle.task.specs.Performs.{Performs, PerformsPart, PerformsChange, HasRoom, task_of};
 ghost use Rattle.task.specs.Task as Tree;
 ghost use Rattle.task.specs.View.{task_view};
 
@@ -23,7 +23,8 @@ impl Task {
 
     // Takes the end of the child that ran since `started`.
     pub(crate) fn finish(&mut self, end: ProcessEnd, started: u64, finished: u64)
-        ensures { task_view self.new ≡ Tree.in_state (CommandState.Finished end started finished) (task_view self.old) }
+        ensures { task_view self.new ≡ Tree.in_state (CommandState.Finished end started finished)
+            (task_view self.old) }
     {
         self.state = CommandState::Finished {
             end,
@@ -34,7 +35,7 @@ impl Task {
 
     // Takes a spawned child as the one that runs.
     fn run_child(&mut self, child: u32, time: u64)
-        ensures { task_view self.new ≡ Tree.started child time (task_view self.old) }
+        ensures { task_view self.new ≡ Tree.run_child child time (task_view self.old) }
     {
         self.state = CommandState::Running {
             child,
@@ -50,8 +51,8 @@ impl Task {
 impl<H: Host, T: Terminal> Step<'_, H, T> {
     // Forgets a pause, and continues the child.
     pub(crate) fn resume(&mut self)
-        requires { Room 1 self.old }
-        ensures { Performs H.Host T.Terminal 1 (Tree.resume (task_of self.old)) self.old (task_of self.new) self.new }
+        requires { HasRoom 1 self.old }
+        ensures { PerformsChange H.Host T.Terminal 1 Tree.resume self.old self.new }
     {
         let Some(_) = self.task.foreground.paused else {
             return;
@@ -64,8 +65,8 @@ impl<H: Host, T: Terminal> Step<'_, H, T> {
 
     // Ends the watch, and releases a held grant.
     pub(crate) fn yield_foreground(&mut self)
-        requires { Room 1 self.old }
-        ensures { Performs H.Host T.Terminal 1 (Tree.yield (task_of self.old)) self.old (task_of self.new) self.new }
+        requires { HasRoom 1 self.old }
+        ensures { PerformsChange H.Host T.Terminal 1 Tree.yield self.old self.new }
     {
         self.task.foreground.watch = false;
         if self.task.foreground.grant {
@@ -76,8 +77,9 @@ impl<H: Host, T: Terminal> Step<'_, H, T> {
 
     // Kills the child and waits for its end, which is then the state.
     pub(crate) fn end_by_force(&mut self, child: u32, started: u64) -> Result<(), Fault>
-        requires { Room 2 self.old }
-        ensures { Performs H.Host T.Terminal 2 (Tree.end_by_force child started self.old.time (task_of self.old)) self.old (task_of self.new, result) self.new }
+        requires { HasRoom 2 self.old }
+        ensures { PerformsPart H.Host T.Terminal 2 (Tree.end_by_force child started self.old.time)
+            self.old result self.new }
     {
         self.kill(child)?;
         let end = self.wait(child)?;
@@ -87,8 +89,9 @@ impl<H: Host, T: Terminal> Step<'_, H, T> {
 
     // The options of a spawn: the hook's answer, or the command's.
     fn spawn_options(&mut self) -> SpawnOptions
-        requires { Room 1 self.old }
-        ensures asked { Performs H.Host T.Terminal 1 (Tree.spawn_options (task_of self.old)) self.old result self.new }
+        requires { HasRoom 1 self.old }
+        ensures asked { Performs H.Host T.Terminal 1 (Tree.spawn_options (task_of self.old))
+            self.old result self.new }
         ensures task { self.new.task.now ≡ self.old.task.now }
     {
         let options = self.task.command.options;
@@ -102,8 +105,9 @@ impl<H: Host, T: Terminal> Step<'_, H, T> {
 
     // Spawns the command anew.
     pub(crate) fn launch(&mut self) -> Result<(), Fault>
-        requires { Room 2 self.old }
-        ensures { Performs H.Host T.Terminal 2 (Tree.launch self.old.time (task_of self.old)) self.old (task_of self.new, result) self.new }
+        requires { HasRoom 2 self.old }
+        ensures { PerformsPart H.Host T.Terminal 2 (Tree.launch self.old.time)
+            self.old result self.new }
     {
         let time = self.time;
         self.task.reset(time);
@@ -120,8 +124,9 @@ impl<H: Host, T: Terminal> Step<'_, H, T> {
 
     // Tells a fault to the error handler, if one is set.
     pub(crate) fn report(&mut self, outcome: Result<(), Fault>)
-        requires { Room 1 self.old }
-        ensures told { Performs H.Host T.Terminal 1 (Tree.told (task_of self.old).settings.handler outcome) self.old tt self.new }
+        requires { HasRoom 1 self.old }
+        ensures told { Performs H.Host T.Terminal 1
+            (Tree.tell_fault (task_of self.old).settings.handler outcome) self.old tt self.new }
         ensures task { self.new.task.now ≡ self.old.task.now }
     {
         if let (Some(handler), Err(fault)) = (self.task.settings.handler, outcome) {

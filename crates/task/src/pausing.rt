@@ -1,6 +1,6 @@
 // Pauses: what is done when a signal has stopped or continued the child.
 ghost use Rattle.std.specs.Prelude.{◌≡◌};
-ghost use Rattle.task.specs.Performs.{Performs, Room, task_of};
+ghost use Rattle.task.specs.Performs.{PerformsPart, PerformsChange, HasRoom};
 ghost use Rattle.task.specs.Task as Tree;
 
 use crate::step::Step;
@@ -26,8 +26,8 @@ fn is_ours(own: u32, child: u32, group: Option<u32>) -> bool
 impl<H: Host, T: Terminal> Step<'_, H, T> {
     // Tries to get a grant for the child's group, which has the child's number; `own` is the terminal's own group.
     fn try_grant(&mut self, own: u32, child: u32)
-        requires { Room 2 self.old }
-        ensures { Performs H.Host T.Terminal 2 (Tree.try_grant own child (task_of self.old)) self.old (task_of self.new) self.new }
+        requires { HasRoom 2 self.old }
+        ensures { PerformsChange H.Host T.Terminal 2 (Tree.try_grant own child) self.old self.new }
     {
         let group = self.owner();
         if !is_ours(own, child, group) {
@@ -40,8 +40,9 @@ impl<H: Host, T: Terminal> Step<'_, H, T> {
 
     // Continues the child that a signal has stopped; it stays paused by it where that faults.
     fn continue_child(&mut self, child: u32, signal: u8)
-        requires { Room 1 self.old }
-        ensures { Performs H.Host T.Terminal 1 (Tree.continue_child child signal (task_of self.old)) self.old (task_of self.new) self.new }
+        requires { HasRoom 1 self.old }
+        ensures { PerformsChange H.Host T.Terminal 1 (Tree.continue_child child signal)
+            self.old self.new }
     {
         match self.cont(child) {
             Ok(()) => self.task.foreground.paused = None,
@@ -51,8 +52,9 @@ impl<H: Host, T: Terminal> Step<'_, H, T> {
 
     // Takes a signal that has stopped or continued the child.
     fn take_pause(&mut self, own: u32, child: u32, signal: u8)
-        requires { Room 3 self.old }
-        ensures { Performs H.Host T.Terminal 3 (Tree.take_pause own child signal (task_of self.old)) self.old (task_of self.new) self.new }
+        requires { HasRoom 3 self.old }
+        ensures { PerformsChange H.Host T.Terminal 3 (Tree.take_pause own child signal)
+            self.old self.new }
     {
         let wanted = self.task.command.wants_grant();
         let held = self.task.foreground.grant;
@@ -79,8 +81,8 @@ impl<H: Host, T: Terminal> Step<'_, H, T> {
 
     // Takes the oldest pause, while a child runs; answers its signal.
     pub(crate) fn pause(&mut self, own: u32) -> Option<u8>
-        requires { Room 3 self.old }
-        ensures { Performs H.Host T.Terminal 3 (Tree.pause own (task_of self.old)) self.old (task_of self.new, result) self.new }
+        requires { HasRoom 3 self.old }
+        ensures { PerformsPart H.Host T.Terminal 3 (Tree.pause own) self.old result self.new }
     {
         let CommandState::Running { child, .. } = self.task.state else {
             return None;

@@ -7,8 +7,8 @@ use Rattle.std.proofs.lemmas.List.{set_past}
 use Rattle.std.proofs.lemmas.List.Sums.{sum_by-cons}
 use Rattle.tickets.specs.declared.flag.Mark.{Mark}
 use Rattle.tickets.specs.declared.flag.Mark.TheVariants.{Held, Raised}
-use Rattle.tickets.specs.Weights.{weight, weigh, one_at, each}
-use Rattle.tickets.specs.Tickets.{Place, Table, place, is_waiting, is_raised, is_taken, change, raise, raise_each, put, vacate, found, goes_on, settled, free, free_places, ticket_room}
+use Rattle.tickets.specs.Weights.{weight, weigh, one_at, unit_weight}
+use Rattle.tickets.specs.Tickets.{Place, Table, place_with, is_waiting, is_raised, is_taken, change, raise, raise_each, put, vacate, mark_of, goes_on, done_count, is_free, free_places, ticket_room}
 
 -- WEIGHTS
 
@@ -16,7 +16,7 @@ pub weigh-append : (w : ℕ → ℕ) (xs ys : List ℕ) → weigh w (xs ++ ys) �
 weigh-append w [] ys = omega arith
 weigh-append w (x ∷ xs) ys = omega (arith, weigh-append w xs ys)
 
-pub weigh-each : (xs : List ℕ) → weigh each xs ≡ length xs
+pub weigh-each : (xs : List ℕ) → weigh unit_weight xs ≡ length xs
 weigh-each [] = refl
 weigh-each (x ∷ xs) = omega (arith, weigh-each xs)
 
@@ -29,17 +29,18 @@ taken_parts w [] = refl
 taken_parts w (e ∷ es) = grind (arith, taken_parts w es)
 
 -- there are no more tickets than places
-pub places_few : (p : Mark → Bool) (es : Table) → weight p each es ≤ length es
+pub places_few : (p : Mark → Bool) (es : Table) → weight p unit_weight es ≤ length es
 places_few p [] = omega arith
 places_few p (e ∷ es) = grind (arith, places_few p es)
 
-pub waiting_few : (es : Table) → weight is_waiting each es ≤ length es
+pub waiting_few : (es : Table) → weight is_waiting unit_weight es ≤ length es
 waiting_few = places_few is_waiting
 
 -- ONE PLACE CHANGES
 
 -- a change sets the first place that p picks; where it picks none, that place is past the end, and nothing is set
-pub change-set : (p : Place → Bool) (f : Place → Place) (es : Table) (d : Place) → change p f es ≡ set es (position_or_len p es) (f (get_or es (position_or_len p es) d))
+pub change-set : (p : Place → Bool) (f : Place → Place) (es : Table) (d : Place) → change p f es ≡ set es (position_or_len p es)
+    (f (get_or es (position_or_len p es) d))
 change-set p f [] d = refl
 change-set p f (e ∷ es) d = grind (arith, one-add, change-set p f es d)
 
@@ -78,18 +79,19 @@ raise_none t (e ∷ es) h = grind (arith, nat_tests, raise_none t es)
 -- A TICKET IS ISSUED
 
 -- a new ticket gets a place
-pub put-weight : (p : Mark → Bool) (t : ℕ) (mark : Mark) (es : Table) → 1 ≤ free_places es → (w : ℕ → ℕ) → weight p w (put t mark es) ≡ cond (p mark) (w t) 0 + weight p w es
+pub put-weight : (p : Mark → Bool) (t : ℕ) (mark : Mark) (es : Table) → 1 ≤ free_places es → (w : ℕ → ℕ) → weight p w (put t mark es) ≡ cond (p mark)
+    (w t) 0 + weight p w es
 put-weight p t mark [] h w = absurd (omega arith)
 put-weight p t mark (e ∷ es) h w = grind (arith, put-weight p t mark es)
 
 -- whether the first place is free, and the free ones after it
-free-cons : (e : Place) (es : Table) → free_places (e ∷ es) ≡ cond (free e) 1 0 + free_places es
+free-cons : (e : Place) (es : Table) → free_places (e ∷ es) ≡ cond (is_free e) 1 0 + free_places es
 free-cons e es = sum_by-cons _ e es
 
 -- it takes one free place at most
 pub put-free : (t : ℕ) (mark : Mark) (es : Table) → free_places es ≤ free_places (put t mark es) + 1
 put-free t mark [] = omega arith
-put-free t mark (None ∷ es) = omega (arith, free-cons None es, free-cons (place t mark) es)
+put-free t mark (None ∷ es) = omega (arith, free-cons None es, free-cons (place_with t mark) es)
 put-free t mark (Some k ∷ es) = omega (arith, free-cons (Some k) es, free-cons (Some k) (put t mark es), put-free t mark es)
 
 -- where there is room for n + 1 tickets, there is room for one
@@ -103,7 +105,7 @@ room_rest n last mark es h = grind (arith, nat_tests, put-free (last + 1) mark e
 -- A PLACE IS VACATED
 
 -- a raised ticket that leaves its place changes nothing for those that wait
-pub vacate_waiting : (t : ℕ) (es : Table) → found t es ≡ Some Raised → (w : ℕ → ℕ) → weight is_waiting w (vacate t es) ≡ weight is_waiting w es
+pub vacate_waiting : (t : ℕ) (es : Table) → mark_of t es ≡ Some Raised → (w : ℕ → ℕ) → weight is_waiting w (vacate t es) ≡ weight is_waiting w es
 vacate_waiting t [] h w = refl
 vacate_waiting t (e ∷ es) h w = grind (arith, vacate_waiting t es)
 
@@ -113,32 +115,32 @@ vacate-taken t [] w = omega arith
 vacate-taken t (e ∷ es) w = grind (arith, vacate-taken t es w)
 
 -- a held ticket that waits is raised
-pub raise-held : (t : ℕ) (es : Table) → found t es ≡ Some Held → found t (raise t es) ≡ Some Raised
+pub raise-held : (t : ℕ) (es : Table) → mark_of t es ≡ Some Held → mark_of t (raise t es) ≡ Some Raised
 raise-held t [] h = absurd cc
 raise-held t (e ∷ es) h = grind (arith, common_steps, raise-held t es)
 
 -- a raised ticket stays raised, whichever is raised
-pub raise-keeps : (s t : ℕ) (es : Table) → found s es ≡ Some Raised → found s (raise t es) ≡ Some Raised
+pub raise-keeps : (s t : ℕ) (es : Table) → mark_of s es ≡ Some Raised → mark_of s (raise t es) ≡ Some Raised
 raise-keeps s t [] h = h
 raise-keeps s t (e ∷ es) h = grind (arith, common_steps, raise-keeps s t es)
 
-pub raise_each-keeps : (s : ℕ) (ts : List ℕ) (es : Table) → found s es ≡ Some Raised → found s (raise_each ts es) ≡ Some Raised
+pub raise_each-keeps : (s : ℕ) (ts : List ℕ) (es : Table) → mark_of s es ≡ Some Raised → mark_of s (raise_each ts es) ≡ Some Raised
 raise_each-keeps s [] es h = h
 raise_each-keeps s (t ∷ ts) es h = raise_each-keeps s ts (raise t es) (raise-keeps s t es h)
 
 -- WHERE A TICKET IS
 
 -- a new ticket is found with its mark
-pub found-new : (t : ℕ) (mark : Mark) (es : Table) → 1 ≤ free_places es → weight is_taken (one_at t) es ≡ 0 → found t (put t mark es) ≡ Some mark
+pub found-new : (t : ℕ) (mark : Mark) (es : Table) → 1 ≤ free_places es → weight is_taken (one_at t) es ≡ 0 → mark_of t (put t mark es) ≡ Some mark
 found-new t mark [] room none = absurd (omega (arith, room))
 found-new t mark (e ∷ es) room none = grind (arith, common_steps, nat_tests, free-cons e es, found-new t mark es)
 
 -- another ticket stays as it is where one is issued, or leaves its place
-pub found-put : (s t : ℕ) (mark : Mark) (es : Table) → (s == t) ≡ false → found s (put t mark es) ≡ found s es
+pub found-put : (s t : ℕ) (mark : Mark) (es : Table) → (s == t) ≡ false → mark_of s (put t mark es) ≡ mark_of s es
 found-put s t mark [] n = refl
 found-put s t mark (e ∷ es) n = grind (arith, common_steps, found-put s t mark es)
 
-pub found-vacate : (s t : ℕ) (es : Table) → (s == t) ≡ false → found s (vacate t es) ≡ found s es
+pub found-vacate : (s t : ℕ) (es : Table) → (s == t) ≡ false → mark_of s (vacate t es) ≡ mark_of s es
 found-vacate s t [] n = refl
 found-vacate s t (e ∷ es) n = grind (arith, common_steps, found-vacate s t es)
 
@@ -149,15 +151,16 @@ goes_again k = grind (arith, common_steps)
 pub goes_further : (k l m : Option Mark) → goes_on k l ≡ true → goes_on l m ≡ true → goes_on k m ≡ true
 goes_further k l m g h = grind (arith, common_steps)
 
-pub raise-goes : (s t : ℕ) (es : Table) → goes_on (found s es) (found s (raise t es)) ≡ true
+pub raise-goes : (s t : ℕ) (es : Table) → goes_on (mark_of s es) (mark_of s (raise t es)) ≡ true
 raise-goes s t [] = refl
 raise-goes s t (e ∷ es) = grind (arith, common_steps, nat_tests, raise-goes s t es, goes_again)
 
-pub raise_each-goes : (s : ℕ) (ts : List ℕ) (es : Table) → goes_on (found s es) (found s (raise_each ts es)) ≡ true
-raise_each-goes s [] es = goes_again (found s es)
-raise_each-goes s (t ∷ ts) es = goes_further (found s es) (found s (raise t es)) (found s (raise_each ts (raise t es))) (raise-goes s t es) (raise_each-goes s ts (raise t es))
+pub raise_each-goes : (s : ℕ) (ts : List ℕ) (es : Table) → goes_on (mark_of s es) (mark_of s (raise_each ts es)) ≡ true
+raise_each-goes s [] es = goes_again (mark_of s es)
+raise_each-goes s (t ∷ ts) es = goes_further (mark_of s es) (mark_of s (raise t es)) (mark_of s (raise_each ts (raise t es))) (raise-goes s t es)
+    (raise_each-goes s ts (raise t es))
 
 -- in a table with one place for it at most, a ticket waits, is raised, or has no place
-pub one_standing : (s : ℕ) (es : Table) → weight is_taken (one_at s) es ≤ 1 → weight is_waiting (one_at s) es + settled (found s es) ≡ 1
+pub one_standing : (s : ℕ) (es : Table) → weight is_taken (one_at s) es ≤ 1 → weight is_waiting (one_at s) es + done_count (mark_of s es) ≡ 1
 one_standing s [] h = refl
 one_standing s (e ∷ es) h = grind (arith, common_steps, nat_tests, one_standing s es, taken_parts (one_at s) es)

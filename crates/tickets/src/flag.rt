@@ -1,9 +1,9 @@
-// The ticket table of a job. A ticket is a flag that is raised once.
+// The ticket table of a job. A ticket is a flag that is raised once; the table knows it by its serial.
 ghost use Rattle.std.specs.Prelude.{◌≡◌, ◌<◌, Bool, IfSome, Some, length};
 ghost use Rattle.std.specs.List.{find, position};
 ghost use Rattle.std.specs.Option.{option_copied};
 ghost use Rattle.tickets.specs.Searches.{Computes, Tests};
-ghost use Rattle.tickets.specs.Tickets.{TicketsView, Place, change, found, free_places, fresh, issue, raise, raise_each, risen, stands, ticket_room, vacate, waits};
+ghost use Rattle.tickets.specs.Tickets.{TicketsView, Place, change, mark_of, free_places, fresh_tickets, issue, raise, raise_each, raise_place, stands, ticket_room, vacate, waits};
 
 use std::marker::Model;
 
@@ -18,31 +18,31 @@ pub enum Mark {
     Raised,
 }
 
-// A ticket that has a place in the table.
+// What lies in the table for a ticket: its serial and its mark.
 #[derive(Clone, Copy, PartialEq, Eq, Debug)]
-pub struct Ticket {
-    pub serial: u32,
+pub struct Entry {
+    pub ticket: u32,
     pub mark: Mark,
 }
 
-// A place of the table: its ticket, or none where it is free.
-type Place = Option<Ticket>;
+// A place of the table: its entry, or none where it is free.
+type Place = Option<Entry>;
 
-impl Ticket {
-    // Whether it waits and has this serial.
-    fn waits(self, serial: u32) -> bool
-        ensures { result ≡ waits serial (Some self) }
+impl Entry {
+    // Whether it is that of this ticket, which waits.
+    fn waits(self, ticket: u32) -> bool
+        ensures { result ≡ waits ticket (Some self) }
     {
-        self.mark != Mark::Raised && serial == self.serial
+        self.mark != Mark::Raised && ticket == self.ticket
     }
 
-    // Its place once it is raised; a ticket that nobody holds leaves its place.
-    fn risen(self) -> Place
-        ensures { result ≡ risen (Some self) }
+    // Its place once its ticket is raised; a ticket that nobody holds leaves its place.
+    fn raised(self) -> Place
+        ensures { result ≡ raise_place (Some self) }
     {
         match self.mark {
             Mark::Unheld => None,
-            Mark::Held | Mark::Raised => Some(Ticket {
+            Mark::Held | Mark::Raised => Some(Entry {
                 mark: Mark::Raised,
                 ..self
             }),
@@ -64,18 +64,21 @@ fn place<P: Fn(&Place) -> bool>(entries: &[Place], passes: P) -> Option<usize>
 fn change<P: Fn(&Place) -> bool, F: FnOnce(Place) -> Place>(entries: &mut [Place], passes: P, to: F)
     requires passes { P.IsAlwaysCallable passes }
     requires to { F.IsAlwaysCallable to }
-    ensures { (p : Place → Bool) (f : Place → Place) → Tests P.Fn passes p → Computes F.FnOnce to f → entries.new ≡ change p f entries.old }
+    ensures { (p : Place → Bool) (f : Place → Place) → Tests P.Fn passes p
+        → Computes F.FnOnce to f → entries.new ≡ change p f entries.old }
 {
     if let Some(at) = place(entries, passes) {
         entries[at] = to(entries[at]);
     }
 }
 
-// The place of the ticket `serial`.
-fn place_of(entries: &[Place], serial: u32) -> Option<&Place>
-    ensures { option_copied result ≡ find (stands serial) entries.now }
+// The place of a ticket.
+fn place_of(entries: &[Place], ticket: u32) -> Option<&Place>
+    ensures { option_copied result ≡ find (stands ticket) entries.now }
 {
-    entries.iter().find(|place| place.is_some_and(|ticket| ticket.serial == serial))
+    entries
+        .iter()
+        .find(|place| place.is_some_and(|entry| entry.ticket == ticket))
 }
 
 // How many places are free.
@@ -109,7 +112,7 @@ impl Model for Tickets {
 impl Tickets {
     // A table with every place free.
     pub fn new() -> Self
-        ensures { result ≡ fresh }
+        ensures { result ≡ fresh_tickets }
     {
         Tickets {
             entries: [None; PLACES],
@@ -126,7 +129,7 @@ impl Tickets {
             && u32::try_from(n).is_ok_and(|n| self.issued.checked_add(n).is_some())
     }
 
-    // Gives the next serial the first free place; none where there is no place or no serial.
+    // Gives the ticket with the next serial the first free place; none where there is no place or no serial.
     pub fn issue(&mut self, held: bool) -> Option<u32>
         ensures { (self.new, result) ≡ issue held self.old }
     {
@@ -134,54 +137,45 @@ impl Tickets {
         if !self.fits(1) {
             return None;
         }
-        let serial = self.issued + 1;
+        let ticket = self.issued + 1;
         let mark = if held { Mark::Held } else { Mark::Unheld };
         change(
             &mut self.entries,
             Option::is_none,
-            |_| Some(Ticket { serial, mark }),
+            |_| Some(Entry { ticket, mark }),
         );
-        self.issued = serial;
-        Some(serial)
+        self.issued = ticket;
+        Some(ticket)
     }
 
-    // Raises the waiting ticket `serial`; nothing changes where none waits.
-    pub fn raise(&mut self, serial: u32)
-        ensures { self.new ≡ record self.old { table = raise serial self.old.table } }
+    // Raises a waiting ticket; nothing changes where it doesn't wait.
+    pub fn raise(&mut self, ticket: u32)
+        ensures { self.new ≡ record self.old { table = raise ticket self.old.table } }
     {
         change(
             &mut self.entries,
-            |place| place.is_some_and(|ticket| ticket.waits(serial)),
-            |place| place.and_then(Ticket::risen),
+            |place| place.is_some_and(|entry| entry.waits(ticket)),
+            |place| place.and_then(Entry::raised),
         );
     }
 
-    // Raises each ticket of a list, the first first.
-    pub fn raise_each(&mut self, serials: &[u32])
-        ensures { self.new ≡ record self.old { table = raise_each serials.now self.old.table } }
+    // The mark of a ticket; none where it has no place.
+    pub fn mark(&self, ticket: u32) -> Option<Mark>
+        ensures { result ≡ mark_of ticket self.now.table }
     {
-        for &serial in serials {
-            self.raise(serial);
-        }
-    }
-
-    // The mark of the ticket `serial`; none where it has no place.
-    pub fn mark(&self, serial: u32) -> Option<Mark>
-        ensures { result ≡ found serial self.now.table }
-    {
-        place_of(&self.entries, serial)
+        place_of(&self.entries, ticket)
             .copied()
             .flatten()
-            .map(|ticket| ticket.mark)
+            .map(|entry| entry.mark)
     }
 
-    // Frees the place of the ticket `serial`, whatever its mark; nothing changes where it has none.
-    pub fn vacate(&mut self, serial: u32)
-        ensures { self.new ≡ record self.old { table = vacate serial self.old.table } }
+    // Frees the place of a ticket, whatever its mark; nothing changes where it has none.
+    pub fn vacate(&mut self, ticket: u32)
+        ensures { self.new ≡ record self.old { table = vacate ticket self.old.table } }
     {
         change(
             &mut self.entries,
-            |place| place.is_some_and(|ticket| ticket.serial == serial),
+            |place| place.is_some_and(|entry| entry.ticket == ticket),
             |_| None,
         );
     }
@@ -202,57 +196,7 @@ mod tests {
         assert_eq!(rt; tickets.issue(true), None);
         tickets.vacate(7);
         assert_eq!(rt; tickets.issue(true), Some(257));
-        assert_eq!(rt; tickets.entries[6].map(|ticket| ticket.serial), Some(257));
-    }
-
-    #[test]
-    fn a_held_ticket_is_raised_once_and_freed_once(rt: HostRuntime) {
-        let mut tickets = Tickets::new();
-        assert_eq!(rt; tickets.mark(1), None);
-        assert_eq!(rt; tickets.issue(true), Some(1));
-        assert_eq!(rt; tickets.mark(1), Some(Mark::Held));
-        tickets.raise(1);
-        assert_eq!(rt; tickets.mark(1), Some(Mark::Raised));
-        tickets.raise(1);
-        assert_eq!(rt; tickets.mark(1), Some(Mark::Raised));
-        tickets.vacate(1);
-        assert_eq!(rt; tickets.mark(1), None);
-        assert_eq!(rt; tickets.issue(true), Some(2));
-        tickets.vacate(1);
-        assert_eq!(rt; tickets.mark(2), Some(Mark::Held));
-    }
-
-    #[test]
-    fn an_unheld_ticket_leaves_its_place_when_raised(rt: HostRuntime) {
-        let mut tickets = Tickets::new();
-        assert_eq!(rt; tickets.issue(false), Some(1));
-        assert_eq!(rt; tickets.mark(1), Some(Mark::Unheld));
-        assert!(rt; !tickets.fits(256));
-        tickets.raise(1);
-        assert_eq!(rt; tickets.mark(1), None);
-        assert!(rt; tickets.fits(256));
-        assert_eq!(rt; tickets.entries[0], None);
-    }
-
-    #[test]
-    fn each_ticket_of_a_list_is_raised(rt: HostRuntime) {
-        let mut tickets = Tickets::new();
-        assert_eq!(rt; tickets.issue(true), Some(1));
-        assert_eq!(rt; tickets.issue(false), Some(2));
-        assert_eq!(rt; tickets.issue(true), Some(3));
-        tickets.raise_each(&[3, 0, 2, 9]);
-        assert_eq!(rt; tickets.mark(1), Some(Mark::Held));
-        assert_eq!(rt; tickets.mark(2), None);
-        assert_eq!(rt; tickets.mark(3), Some(Mark::Raised));
-    }
-
-    #[test]
-    fn zero_is_no_ticket(rt: HostRuntime) {
-        let mut tickets = Tickets::new();
-        tickets.raise(0);
-        tickets.vacate(0);
-        assert_eq!(rt; tickets.mark(0), None);
-        assert_eq!(rt; tickets.issue(true), Some(1));
+        assert_eq!(rt; tickets.entries[6].map(|entry| entry.ticket), Some(257));
     }
 
     #[test]
@@ -265,7 +209,6 @@ mod tests {
         assert_eq!(rt; tickets.issue(true), Some(u32::MAX));
         assert!(rt; !tickets.fits(1));
         assert_eq!(rt; tickets.issue(true), None);
-        assert_eq!(rt; tickets.issued, u32::MAX);
         assert_eq!(rt; tickets.mark(u32::MAX), Some(Mark::Held));
     }
 }

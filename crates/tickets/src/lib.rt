@@ -2,3 +2,4 @@
 #![tactic(auto)]
 
 pub mod flag;
+pub mod ticket;

@@ -1,8 +1,8 @@
 // The steps of a job: a control step carries out one control, a child step polls the child, a pause step takes one pause.
-ghost use Rattle.std.specs.Prelude.{◌≡◌, length};
+ghost use Rattle.std.specs.Prelude.{◌≡◌};
 ghost use Rattle.supervisor.specs.Job as Spec;
-ghost use Rattle.supervisor.specs.Laws.{Accepting, Continues, NormalWaits, RaisedAtEnd, TakenWhenDue};
-ghost use Rattle.supervisor.specs.Steps.{job_view, moment, Steps};
+ghost use Rattle.supervisor.specs.Laws.{IfAccepted, Continues, NormalWaits, RaisesAtEnd, TakesWhenDue};
+ghost use Rattle.supervisor.specs.Steps.{job_view, moment, StepsOrRefuses};
 
 use super::Job;
 use crate::answers::{Progress, StepKind, Stepped};
@@ -18,16 +18,18 @@ use task::conduct::LEAST_PLACES;
 const LATEST: u64 = 1 << 62;
 
 impl Job {
-    // Whether a step at this time, with a sheet of so many places, may be made.
-    fn may_step(&self, time: u64, places: usize) -> Result<(), Refusal>
-        ensures { result ≡ Spec.may_step time places (job_view self.now) }
+    fn check_open(&self) -> Result<(), Refusal>
+        ensures { result ≡ Spec.check_open (job_view self.now) }
     {
         if self.closed {
             return Err(Refusal::Closed);
         }
-        if places < LEAST_PLACES {
-            return Err(Refusal::Sheet);
-        }
+        Ok(())
+    }
+
+    fn check_time(&self, time: u64) -> Result<(), Refusal>
+        ensures { result ≡ Spec.check_time time (job_view self.now) }
+    {
         if time < self.clock || time > LATEST {
             return Err(Refusal::Clock);
         }
@@ -38,7 +40,7 @@ impl Job {
     // each contract would have to say that the same ones are lent after it. The three steps are no cases of one function: what is done
     // before and after the task's work differs, and the work is `conduct`.
 
-    // Takes the next control and carries it out. The calls that are made are recorded on the sheet, from its first place on.
+    /// Takes the next control and carries it out. The calls that are made are recorded on the sheet, from its first place on.
     pub fn control_step<H: Host, T: Terminal>(
         &mut self,
         host: &mut H,
@@ -46,12 +48,21 @@ impl Job {
         sheet: &mut [Record],
         time: u64,
     ) -> Result<Stepped, Refusal>
-        ensures stepped { Steps H.Host T.Terminal Spec.control_step time (moment self.old host.old terminal.old sheet.old) result (moment self.new host.new terminal.new sheet.new) }
-        ensures deadline { Accepting result sheet.new (λ _. TakenWhenDue time (job_view self.old) (job_view self.new)) }
-        ensures normal { Accepting result sheet.new (λ _. NormalWaits (job_view self.old) (job_view self.new)) }
-        ensures continues { Accepting result sheet.new (λ records. Continues time (job_view self.old) records) }
+        ensures stepped { StepsOrRefuses H.Host T.Terminal Spec.control_step time
+            (moment self.old host.old terminal.old sheet.old) result
+            (moment self.new host.new terminal.new sheet.new) }
+        ensures deadline { IfAccepted result sheet.new
+            (λ _. TakesWhenDue time (job_view self.old) (job_view self.new)) }
+        ensures normal { IfAccepted result sheet.new
+            (λ _. NormalWaits (job_view self.old) (job_view self.new)) }
+        ensures continues { IfAccepted result sheet.new
+            (λ records. Continues time (job_view self.old) records) }
     {
-        self.may_step(time, sheet.len())?; // A refused step keeps the clock.
+        self.check_open()?;
+        let Some(places) = sheet.first_chunk_mut::<LEAST_PLACES>() else {
+            return Err(Refusal::Sheet);
+        };
+        self.check_time(time)?;
         self.clock = time;
         let Some(received) = self.mailbox.receive(time) else {
             return Ok(Stepped {
@@ -61,17 +72,14 @@ impl Job {
             });
         };
         let message = received.message;
-        let Some((outcome, records)) = conduct::control(
+        let (outcome, records) = conduct::control(
             &mut self.task,
             host,
             terminal,
-            sheet,
+            places,
             message.control,
             time,
-        ) else {
-            // `may_step` has seen to the sheet, and `control` checks it again, since it takes every sheet.
-            unreachable!()
-        };
+        );
         self.mailbox.settle(time, outcome, message.ticket);
         self.closed = outcome.closes();
         Ok(Stepped {
@@ -81,7 +89,7 @@ impl Job {
         })
     }
 
-    // Polls the child, if one runs, and sees to its end: tickets are raised, and a restart that is remembered is continued.
+    /// Polls the child, if one runs, and sees to its end: tickets are raised, and a restart that is remembered is continued.
     pub fn child_step<H: Host, T: Terminal>(
         &mut self,
         host: &mut H,
@@ -89,24 +97,28 @@ impl Job {
         sheet: &mut [Record],
         time: u64,
     ) -> Result<Stepped, Refusal>
-        ensures stepped { Steps H.Host T.Terminal Spec.child_step time (moment self.old host.old terminal.old sheet.old) result (moment self.new host.new terminal.new sheet.new) }
-        ensures ended { Accepting result sheet.new (λ records. RaisedAtEnd (job_view self.old) records (job_view self.new)) }
+        ensures stepped { StepsOrRefuses H.Host T.Terminal Spec.child_step time
+            (moment self.old host.old terminal.old sheet.old) result
+            (moment self.new host.new terminal.new sheet.new) }
+        ensures ended { IfAccepted result sheet.new
+            (λ records. RaisesAtEnd (job_view self.old) records (job_view self.new)) }
     {
-        self.may_step(time, sheet.len())?;
+        self.check_open()?;
+        let Some(places) = sheet.first_chunk_mut::<LEAST_PLACES>() else {
+            return Err(Refusal::Sheet);
+        };
+        self.check_time(time)?;
         self.clock = time;
         let restart = self.mailbox.memory().is_some();
-        let Some((outcome, records)) = conduct::poll(
+        let (outcome, records) = conduct::poll(
             &mut self.task,
             host,
             terminal,
-            sheet,
+            places,
             restart,
             time,
-        ) else {
-            // As in a control step.
-            unreachable!()
-        };
-        self.mailbox.after_poll(outcome);
+        );
+        self.mailbox.settle_poll(outcome);
         Ok(Stepped {
             progress: outcome.into(),
             records,
@@ -114,7 +126,7 @@ impl Job {
         })
     }
 
-    // Takes the oldest pause, if one waits and a child runs.
+    /// Takes the oldest pause, if one waits and a child runs.
     pub fn pause_step<H: Host, T: Terminal>(
         &mut self,
         host: &mut H,
@@ -122,15 +134,18 @@ impl Job {
         sheet: &mut [Record],
         time: u64,
     ) -> Result<Stepped, Refusal>
-        ensures { Steps H.Host T.Terminal (Spec.pause_step (T.Terminal.book terminal.old).own) time (moment self.old host.old terminal.old sheet.old) result (moment self.new host.new terminal.new sheet.new) }
+        ensures { StepsOrRefuses H.Host T.Terminal
+            (Spec.pause_step (T.Terminal.book terminal.old).own) time
+            (moment self.old host.old terminal.old sheet.old) result
+            (moment self.new host.new terminal.new sheet.new) }
     {
-        self.may_step(time, sheet.len())?;
-        self.clock = time;
-        let Some((taken, records)) = conduct::pause(&mut self.task, host, terminal, sheet, time)
-        else {
-            // As in a control step.
-            unreachable!()
+        self.check_open()?;
+        let Some(places) = sheet.first_chunk_mut::<LEAST_PLACES>() else {
+            return Err(Refusal::Sheet);
         };
+        self.check_time(time)?;
+        self.clock = time;
+        let (taken, records) = conduct::pause(&mut self.task, host, terminal, places, time);
         Ok(Stepped {
             progress: Progress::of_pause(taken),
             records,
@@ -138,7 +153,7 @@ impl Job {
         })
     }
 
-    // A step of any kind.
+    /// A step of any kind.
     pub fn step<H: Host, T: Terminal>(
         &mut self,
         kind: StepKind,
@@ -147,7 +162,10 @@ impl Job {
         sheet: &mut [Record],
         time: u64,
     ) -> Result<Stepped, Refusal>
-        ensures { Steps H.Host T.Terminal (Spec.tree_of kind (T.Terminal.book terminal.old).own) time (moment self.old host.old terminal.old sheet.old) result (moment self.new host.new terminal.new sheet.new) }
+        ensures { StepsOrRefuses H.Host T.Terminal
+            (Spec.tree_of kind (T.Terminal.book terminal.old).own)
+            time (moment self.old host.old terminal.old sheet.old) result
+            (moment self.new host.new terminal.new sheet.new) }
     {
         match kind {
             StepKind::Control => self.control_step(host, terminal, sheet, time),

@@ -13,7 +13,7 @@ returns-in_default g c =
     at_most 8 (omega arith)
     (and_then (Tree.make_way (task_of s)) _ c.make_way.ensures
     (where_idle (λ (state : CommandState). Tree.continue_in state s.time t) t.state c.in_default.not-Running (λ _ _ _. refl)
-    (at_value (λ (time : ℕ). Tree.launched time Settled t) c.make_way.ensures.same.time c.begin.ensures)))
+    (at_value (λ (time : ℕ). Tree.begin time Settled t) c.make_way.ensures.same.time c.begin.ensures)))
 
 pub returns : goal.returns
 returns g c =

@@ -8,10 +8,12 @@ pub returns-then-is_ok : goal.returns-then-is_ok
 returns-then-is_ok g c =
     let s = c.args.self.now in
     let part = Tree.launch s.time (task_of s) in
-    rw c.if-not-restart.false (and_then (Tree.reported part) _ (telling part c.launch-launched.ensures c.report.ensures.told) (still_at (rw (c.report.ensures.task, ← c.is_ok.ensures.value, c.if-is_ok.true))))
+    rw c.if-not-restart.false (and_then (Tree.report part) _ (telling part c.launch-launched.ensures c.report.ensures.told)
+    (still_at (rw (c.report.ensures.task, ← c.is_ok.ensures.value, c.if-is_ok.true))))
 
 pub returns-else-is_ok : goal.returns-else-is_ok
 returns-else-is_ok g c =
     let s = c.args.self.now in
     let part = Tree.launch s.time (task_of s) in
-    rw c.if-not-restart.false (and_then (Tree.reported part) _ (telling part c.launch-launched.ensures c.report.ensures.told) (still_at (rw (c.report.ensures.task, ← c.is_ok.ensures.value, c.if-is_ok.false))))
+    rw c.if-not-restart.false (and_then (Tree.report part) _ (telling part c.launch-launched.ensures c.report.ensures.told)
+    (still_at (rw (c.report.ensures.task, ← c.is_ok.ensures.value, c.if-is_ok.false))))

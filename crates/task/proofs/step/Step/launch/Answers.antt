@@ -3,7 +3,7 @@ use Rattle.std.proofs.lemmas.Result.{err_from_is_err_and}
 use Rattle.host.specs.Interaction.{bind, call}
 use Rattle.task.specs.Task as Tree
 use Rattle.task.specs.View.{task_view}
-use Rattle.task.proofs.Performing.{still_at, at_value, from_change, and_then}
+use Rattle.task.proofs.Performing.{still_at, at_value, from_change, and_then, one_call}
 use Rattle.task.proofs.step.Step.launch.Goals as goal
 
 -- what a launch asks once the state is reset
@@ -15,7 +15,7 @@ returns g c =
     at_value (spawning c.args.self.now.time) c.reset.ensures
     (from_change
     (and_then (Tree.spawn_options (task_view c.reset.new.self)) _ c.spawn_options-options.ensures.asked
-    (and_then (call _) _ c.in_ok-child.ensures.performs (still_at (rw (c.run_child.ensures, c.spawn.ensures.task, c.spawn_options-options.ensures.task))))))
+    (and_then (call _) _ (one_call c.in_ok-child.ensures) (still_at (rw (c.run_child.ensures, c.spawn.ensures.task, c.spawn_options-options.ensures.task))))))
 
 pub returns-in_err-child : goal.returns-in_err-child
 returns-in_err-child g c =
@@ -24,4 +24,4 @@ returns-in_err-child g c =
     (at_value (spawning c.args.self.now.time) c.reset.ensures
     (from_change
     (and_then (Tree.spawn_options (task_view c.reset.new.self)) _ c.spawn_options-options.ensures.asked
-    (and_then (call _) _ c.in_err-child.ensures.performs (still_at (rw (c.spawn.ensures.task, c.spawn_options-options.ensures.task)))))))
+    (and_then (call _) _ (one_call c.in_err-child.ensures) (still_at (rw (c.spawn.ensures.task, c.spawn_options-options.ensures.task)))))))

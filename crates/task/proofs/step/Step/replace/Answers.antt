@@ -15,10 +15,11 @@ returns-in-Ok g c =
     let s = c.args.self.now in
     let t = task_of c.end_by_force-forced.new.self in
     let part = Tree.end_by_force c.args.child c.args.started s.time (task_of s) in
-    and_then (Tree.reported part) (Tree.replaced s.time) (telling part c.end_by_force-forced.ensures c.report.ensures.told)
-    (at_value (λ (r : Result ⊤ Fault). Tree.replaced s.time (t, r)) (sym c.in-Ok.is)
-    (at_value (λ (k : Task). Tree.launched s.time Ended (task_view k)) c.report.ensures.task
-    (at_value (λ (time : ℕ). Tree.launched time Ended (task_of c.report.new.self)) (c.report.ensures.told.same.time ∙ c.end_by_force-forced.ensures.same.time) c.begin.ensures)))
+    and_then (Tree.report part) (Tree.replace_after s.time) (telling part c.end_by_force-forced.ensures c.report.ensures.told)
+    (at_value (λ (r : Result ⊤ Fault). Tree.replace_after s.time (t, r)) (sym c.in-Ok.is)
+    (at_value (λ (k : Task). Tree.begin s.time Ended (task_view k)) c.report.ensures.task
+    (at_value (λ (time : ℕ). Tree.begin time Ended (task_of c.report.new.self)) (c.report.ensures.told.same.time ∙ c.end_by_force-forced.ensures.same.time)
+    c.begin.ensures)))
 
 pub returns-in-Err : goal.returns-in-Err
 returns-in-Err g c =
@@ -26,5 +27,5 @@ returns-in-Err g c =
     let t = task_of c.end_by_force-forced.new.self in
     let part = Tree.end_by_force c.args.child c.args.started s.time (task_of s) in
     at_most 6 (omega arith)
-    (and_then (Tree.reported part) (Tree.replaced s.time) (telling part c.end_by_force-forced.ensures c.report.ensures.told)
-    (at_value (λ (r : Result ⊤ Fault). Tree.replaced s.time (t, r)) (sym c.in-Err.is) (still_at (rw c.report.ensures.task))))
+    (and_then (Tree.report part) (Tree.replace_after s.time) (telling part c.end_by_force-forced.ensures c.report.ensures.told)
+    (at_value (λ (r : Result ⊤ Fault). Tree.replace_after s.time (t, r)) (sym c.in-Err.is) (still_at (rw c.report.ensures.task))))

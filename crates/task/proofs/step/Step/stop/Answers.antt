@@ -7,4 +7,5 @@ use Rattle.task.proofs.step.Step.stop.Goals as goal
 pub returns : goal.returns
 returns g c =
     let t = task_of c.make_way.new.self in
-    and_then (Tree.make_way (task_of c.args.self.now)) _ c.make_way.ensures (at_value (λ (time : ℕ). Tree.stop_in t.state time t) c.make_way.ensures.same.time c.stop_child.ensures)
+    and_then (Tree.make_way (task_of c.args.self.now)) _ c.make_way.ensures (at_value (λ (time : ℕ). Tree.stop_in t.state time t) c.make_way.ensures.same.time
+    c.stop_child.ensures)

@@ -11,5 +11,5 @@ returns g c =
     let s = c.args.self.now in
     let part = Tree.end_by_force c.in-Running.child c.in-Running.started s.time (task_of s) in
     at_value (λ (state : CommandState). Tree.stop_in state s.time (task_of s)) (sym c.in-Running.is)
-    (and_then (Tree.reported part) _ (telling part c.end_by_force-forced.ensures c.report.ensures.told)
+    (and_then (Tree.report part) _ (telling part c.end_by_force-forced.ensures c.report.ensures.told)
     (still_at (rw (c.report.ensures.task, c.unless_faulted.ensures))))

@@ -1,3 +1,0 @@
--- What is shown of the groups of a session, and of giving them the foreground.
-pub mod Sessions
-pub mod Giving

@@ -1,0 +1,3 @@
+-- What is shown of the books.
+pub mod Rosters
+pub mod Spawns

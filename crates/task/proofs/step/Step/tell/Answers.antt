@@ -1,6 +1,0 @@
-use Rattle.std.proofs.Common.{refl, arith}
-use Rattle.task.proofs.Performing.{asked}
-use Rattle.task.proofs.step.Step.tell.Goals as goal
-
-pub returns : goal.returns
-returns g c = asked (c.tell-reply.ensures, refl) c.record.ensures (grind arith)
