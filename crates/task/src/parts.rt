@@ -47,7 +47,7 @@ impl Task {
     }
 }
 
-// `Room n` is no invariant of `Step`: each part needs room for a number of records of its own.
+// `HasRoom n` is no invariant of `Step`: each part needs room for a number of records of its own.
 impl<H: Host, T: Terminal> Step<'_, H, T> {
     // Forgets a pause, and continues the child.
     pub(crate) fn resume(&mut self)
