@@ -1,5 +1,5 @@
 // A bounded queue that owns its slots.
-ghost use Rattle.std.specs.Prelude.{◌≡◌, ◌-◌, [], ◌∷◌, ◌++◌, length, if◌then◌else◌, nat_lt, IsTrue};
+ghost use Rattle.std.specs.Prelude.{◌≡◌, ◌≤◌, ◌-◌, [], ◌∷◌, ◌++◌, length, if◌then◌else◌, nat_lt, IsTrue};
 ghost use Rattle.ring.specs.Ring.{first, fits, rest};
 
 use crate::slots;
@@ -83,9 +83,10 @@ impl<T: Copy, const N: usize> Queue<T, N> {
         self.marks = Ring::EMPTY;
     }
 
-    // The items, oldest first: those of the first slice, then those of the second.
+    // The items, oldest first: those of the first slice, then those of the second. There are at most N.
     pub fn as_slices(&self) -> (&[T], &[T])
-        ensures { result.0.now ++ result.1.now ≡ items_of self.now }
+        ensures items { result.0.now ++ result.1.now ≡ items_of self.now }
+        ensures few { length (items_of self.now) ≤ N }
     {
         slots::as_slices(&self.slots, &self.marks)
     }

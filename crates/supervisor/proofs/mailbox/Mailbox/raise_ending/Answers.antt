@@ -15,4 +15,4 @@ returns c =
     let newer = c.as_slices.result.1.now in
     let all = YieldsList-end (YieldsList-from_chain (YieldsList-from_slice older (cc)) (YieldsList-from_slice newer (cc)) (cc) (cc)) c.loop-ticket.yielded _
     c.loop-ticket.yielded_by _ _ c.in-None.is c.next.ensures.steps in
-    rw (c.loop-ticket.invariant, all.0, c.as_slices.ensures, c.clear.ensures) refl
+    rw (c.loop-ticket.invariant, all.0, c.as_slices.ensures.items, c.clear.ensures) refl
