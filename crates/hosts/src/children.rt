@@ -1,5 +1,5 @@
 // The children of the simulated host.
-ghost use Rattle.std.specs.Prelude.{◌≢◌, ◌<◌, ◌≤◌, length, All, AllPairs};
+ghost use Rattle.std.specs.Prelude.{◌≢◌, ◌^◌, ◌<◌, ◌≤◌, length, All, AllPairs};
 
 use crate::child::{Child, Life};
 use arrayvec::ArrayVec;
@@ -17,6 +17,7 @@ pub struct Children {
     next: u32,
     ghost few: { length list.items ≤ 16 },
     ghost begun: { 100 ≤ next },
+    ghost within: { next ≤ 2 ^ 31 },
     ghost below: { All (λ c. c.number < next) list.items },
     ghost distinct: { AllPairs (λ c d. c.number ≢ d.number) list.items },
 }

@@ -15,6 +15,7 @@ invariant_of-self c =
     record {
       few = omega arith;
       begun = c.args.self.now.begun;
+      within = c.args.self.now.within;
       below = rw left (All-filter _ (λ x. x.number < c.args.self.now.next) _ c.args.self.now.below);
       distinct = rw left (AllPairs-filter (λ x y. x.number ≢ y.number) _ _ c.args.self.now.distinct);
     }
