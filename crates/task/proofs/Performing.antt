@@ -1,5 +1,5 @@
 -- How runs of interaction trees in a step are put together.
-use Rattle.std.proofs.Common.{◌≡◌, ℕ, ◌+◌, ◌≤◌, [], ◌∷◌, ◌++◌, refl, ◌∙◌, arith}
+use Rattle.std.proofs.Common.{◌≡◌, ℕ, ◌+◌, ◌≤◌, [], ◌∷◌, ◌++◌, refl, ap, ◌∙◌, arith}
 use Rattle.host.specs.declared.process.Host as Host
 use Rattle.host.specs.declared.terminal.Terminal as Terminal
 use Rattle.host.specs.declared.state.ProcessEnd.{ProcessEnd}
@@ -75,6 +75,10 @@ module _ {H T : Type 0} {by_host : Host.Ghosts H} {by_terminal : Terminal.Ghosts
         (arith, k.recorded.2);
     same = k.same;
   }
+
+  -- where a tree is done, no call was made
+  pub none_made : {A : Type 0} {x y : A} {n : ℕ} {s s' : Step H T} → Performs by_host by_terminal n (done y) s x s' → Performs by_host by_terminal 0 (done y) s x s'
+  none_made u = record { trace = u.trace; traces = u.traces; used = omega (arith, ap (λ w. w.used) u.traces.2); same = u.same }
 
   -- one tree, and the one that follows from its value
   pub and_then : {A B : Type 0} (t : Interaction A) (f : A → Interaction B) {a b : ℕ} {s m s' : Step H T} {x : A} {y : B}

@@ -53,8 +53,8 @@ impl<H: Host, T: Terminal> Step<'_, H, T> {
 
     // Ends the child by force and starts another one.
     fn replace(&mut self, child: u32, started: u64) -> Outcome
-        requires { HasRoom 6 self.old }
-        ensures { PerformsPart H.Host T.Terminal 6 (Tree.replace child started self.old.time)
+        requires { HasRoom 5 self.old }
+        ensures { PerformsPart H.Host T.Terminal 5 (Tree.replace child started self.old.time)
             self.old result self.new }
     {
         let forced = self.end_by_force(child, started);
@@ -103,8 +103,8 @@ impl<H: Host, T: Terminal> Step<'_, H, T> {
 
     // Replaces the child, if one runs.
     fn try_restart(&mut self) -> Outcome
-        requires { HasRoom 8 self.old }
-        ensures { PerformsPart H.Host T.Terminal 8 (Tree.control Control.TryRestart self.old.time)
+        requires { HasRoom 7 self.old }
+        ensures { PerformsPart H.Host T.Terminal 7 (Tree.control Control.TryRestart self.old.time)
             self.old result self.new }
     {
         self.make_way();
@@ -116,8 +116,8 @@ impl<H: Host, T: Terminal> Step<'_, H, T> {
 
     // Replaces the child, if one runs, and starts one otherwise.
     fn continue_restart(&mut self) -> Outcome
-        requires { HasRoom 8 self.old }
-        ensures { PerformsPart H.Host T.Terminal 8 (Tree.control Control.ContinueTryGracefulRestart
+        requires { HasRoom 7 self.old }
+        ensures { PerformsPart H.Host T.Terminal 7 (Tree.control Control.ContinueTryGracefulRestart
             self.old.time) self.old result self.new }
     {
         self.make_way();
@@ -196,8 +196,8 @@ impl<H: Host, T: Terminal> Step<'_, H, T> {
 
     // Carries a control out. It is a message from a queue, and so no closure.
     pub(crate) fn carry_out(&mut self, control: Control) -> Outcome
-        requires { HasRoom 8 self.old }
-        ensures { PerformsPart H.Host T.Terminal 8 (Tree.control control self.old.time)
+        requires { HasRoom 7 self.old }
+        ensures { PerformsPart H.Host T.Terminal 7 (Tree.control control self.old.time)
             self.old result self.new }
     {
         let settings = self.task.settings;

@@ -10,7 +10,7 @@ pub returns-in_default : goal.returns-in_default
 returns-in_default g c =
     let s = c.args.self.now in
     let t = task_of c.make_way.new.self in
-    at_most 8 (omega arith)
+    at_most 7 (omega arith)
     (and_then (Tree.make_way (task_of s)) _ c.make_way.ensures
     (where_idle (λ (state : CommandState). Tree.continue_in state s.time t) t.state c.in_default.not-Running (λ _ _ _. refl)
     (at_value (λ (time : ℕ). Tree.begin time Settled t) c.make_way.ensures.same.time c.begin.ensures)))
