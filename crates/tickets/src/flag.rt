@@ -1,5 +1,5 @@
 // The ticket table of a job. A ticket is a flag that is raised once; the table knows it by its serial.
-ghost use Rattle.std.specs.Prelude.{◌≡◌, ◌<◌, Bool, IfSome, Some, length};
+ghost use Rattle.std.specs.Prelude.{◌≡◌, ◌<◌, Bool, IfSome, Some, length, nat_le};
 ghost use Rattle.std.specs.List.{find, position};
 ghost use Rattle.std.specs.Option.{option_copied};
 ghost use Rattle.tickets.specs.Searches.{Computes, Tests};
@@ -81,11 +81,12 @@ fn place_of(entries: &[Place], ticket: u32) -> Option<&Place>
         .find(|place| place.is_some_and(|entry| entry.ticket == ticket))
 }
 
-// How many places are free.
-fn free_places(entries: &[Place]) -> usize
-    ensures { result ≡ free_places entries.now }
+// Whether `n` places are free; none is looked at once so many are found.
+fn has_free(entries: &[Place], n: usize) -> bool
+    ensures { result ≡ nat_le n (free_places entries.now) }
 {
-    entries.iter().filter(|place| place.is_none()).count()
+    let free = entries.iter().filter(|place| place.is_none());
+    free.take(n).count() == n
 }
 
 // The places of a table.
@@ -125,7 +126,7 @@ impl Tickets {
         ensures answer { result ≡ ticket_room n self.now.issued self.now.table }
         ensures full { length self.now.table ≡ 256 }
     {
-        n <= free_places(&self.entries)
+        has_free(&self.entries, n)
             && u32::try_from(n).is_ok_and(|n| self.issued.checked_add(n).is_some())
     }
 
