@@ -5,9 +5,10 @@ ghost use Rattle.std.specs.Prelude.{◌≡◌, IfOk, IfSome, string_bytes};
 ghost use Rattle.rehearsal.specs.Printed.{rehearsal_text};
 
 use std::alloc::Global;
+use std::env::{Env, FillError};
 use std::io::Read;
 use std::process::ExitCode;
-use std::{env, fs, io};
+use std::{env, fs};
 
 // One byte more than a script may have: enough to know that it is too long.
 const ENOUGH: u64 = rehearsal::MOST_BYTES as u64 + 1;
@@ -16,7 +17,7 @@ const ENOUGH: u64 = rehearsal::MOST_BYTES as u64 + 1;
 const MISUSED: u8 = 2;
 
 // What a script prints.
-fn text_of<R: Read + Drop>(heap: Global, script: R) -> io::Result<String>
+fn text_of<R: Read + Drop>(heap: Global, script: R) -> anyhow::Result<String>
     ensures { IfOk result (λ text.
         IfSome (R.remaining script) (λ bytes. string_bytes text ≡ rehearsal_text bytes)) }
 {
@@ -25,31 +26,36 @@ fn text_of<R: Read + Drop>(heap: Global, script: R) -> io::Result<String>
     Ok(rehearsal::rehearse(heap, &bytes)?)
 }
 
+// What the script in a file prints.
+fn text_of_file(rt: &HostRuntime, path: &str) -> anyhow::Result<String> {
+    text_of(rt.alloc(), fs::open(rt, path)?)
+}
+
 fn main(rt: HostRuntime) -> anyhow::Result<ExitCode> {
+    // Where there are none, the arguments aren't read: the program's own name may be any bytes.
+    if matches!(rt.arg(1, &mut []), Err(FillError::NotPresent)) {
+        print!(rt; "{}", text_of(rt.alloc(), rt.stdin())?)?;
+        return Ok(ExitCode::SUCCESS);
+    }
     let mut arguments = env::args(&rt)?.skip(1);
-    let text = match (arguments.next(), arguments.next()) {
-        (None, _) => text_of(rt.alloc(), rt.stdin())?,
-        (Some(path), None) => {
-            match fs::open(&rt, path.as_str()).and_then(|file| text_of(rt.alloc(), file)) {
-                Ok(text) => text,
-                Err(error) => {
-                    eprintln!(rt; "rehearse: {path}: {error}")?;
-                    return Ok(ExitCode::FAILURE);
-                }
-            }
-        }
-        (Some(_), Some(_)) => {
-            eprintln!(rt; "usage: rehearse [SCRIPT]\nWithout SCRIPT, standard input is read.")?;
-            return Ok(ExitCode::from(MISUSED));
-        }
+    let (Some(path), None) = (arguments.next(), arguments.next()) else {
+        eprintln!(rt; "usage: rehearse [SCRIPT]\nWithout SCRIPT, standard input is read.")?;
+        return Ok(ExitCode::from(MISUSED));
     };
-    print!(rt; "{text}")?;
+    match text_of_file(&rt, path.as_str()) {
+        Ok(text) => print!(rt; "{text}")?,
+        Err(error) => {
+            eprintln!(rt; "rehearse: {path}: {error}")?;
+            return Ok(ExitCode::FAILURE);
+        }
+    }
     Ok(ExitCode::SUCCESS)
 }
 
 #[cfg(test)]
 mod tests {
     use super::*;
+    use std::io;
     use std::test::Fail;
 
     #[test]
