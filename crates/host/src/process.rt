@@ -14,16 +14,20 @@ pub trait Host {
     // The most children that the roster can hold.
     const MOST: usize;
 
-    ghost MOST: { ℕ };
+    ghost most: { ℕ };
 
     ghost book: { Self → HostBook };
 
     // Holds of the host before a call, the call with its arguments, its answer, and the host after it.
     ghost did: { Self → (c : HostCall) → HostReply c → Self → Type 0 };
 
+    // `MOST` as clauses name it. A constant that a clause names can't be given by an impl with a lifetime of its own.
+    fn capacity() -> usize
+        ensures { result ≡ most };
+
     // Whether the roster is full; not counted as a call.
     fn is_full(&self) -> bool
-        ensures { result ≡ nat_le MOST (set.len (book self.now).roster) };
+        ensures { result ≡ nat_le most (set.len (book self.now).roster) };
 
     // The options may be a hook's, so they come beside the program: a `Command` is what a job manages.
     fn spawn(
@@ -75,7 +79,7 @@ pub trait Host {
         ensures { did self.old (Calls.tell handler fault) result self.new };
 
     ghost keeps: { (h : Self) (c : HostCall) (a : HostReply c) (k : Self)
-        → did h c a k → HostKeeps MOST (book h) c a (book k) };
+        → did h c a k → HostKeeps most (book h) c a (book k) };
 
-    ghost bounded: { (h : Self) → set.len (book h).roster ≤ MOST };
+    ghost bounded: { (h : Self) → set.len (book h).roster ≤ most };
 }

@@ -11,8 +11,11 @@ use host::state::{CommandState, ProcessEnd};
 use std::convert::AsSlice;
 use std::num::Wrapping;
 
+// The most children that there may be.
+const MOST: usize = 1;
+
 // The sheet of answers, which are written as in the journal, and the place of the next one. The sheet is a `&[i64]`, or another
-// type that lends such a slice: a type parameter, since an impl with a lifetime of its own can't give the constant `MOST`.
+// type that lends such a slice.
 #[derive(Drop)]
 pub struct PreparedHost<A> {
     answers: A,
@@ -74,9 +77,9 @@ impl<A: AsSlice<i64> + Drop> PreparedHost<A> {
 }
 
 impl<A: AsSlice<i64> + Drop> Host for PreparedHost<A> {
-    const MOST: usize = 1;
+    const MOST: usize = MOST;
 
-    ghost MOST = { 1 };
+    ghost most = { 1 };
 
     ghost book = { λ h. book_of (view A.items h) };
 
@@ -85,6 +88,10 @@ impl<A: AsSlice<i64> + Drop> Host for PreparedHost<A> {
     ghost keeps = { λ h c a k did. keeps_so (view A.items h) c a (view A.items k) did };
 
     ghost bounded = { λ h. bounded h.child };
+
+    fn capacity() -> usize {
+        MOST
+    }
 
     #[tactic(auto, using(crate::specs::PreparedBook::len_of_roster))]
     fn is_full(&self) -> bool {

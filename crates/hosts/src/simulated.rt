@@ -76,7 +76,7 @@ impl SimulatedHost {
 impl Host for SimulatedHost {
     const MOST: usize = MOST;
 
-    ghost MOST = { 16 };
+    ghost most = { 16 };
 
     ghost book = { λ h. book_of (view h) };
 
@@ -85,6 +85,10 @@ impl Host for SimulatedHost {
     ghost keeps = { λ h c a k did. Book.keeps_so h c a (view k) did };
 
     ghost bounded = { Book.bounded };
+
+    fn capacity() -> usize {
+        Self::MOST
+    }
 
     fn is_full(&self) -> bool {
         self.children.is_full()

@@ -25,7 +25,7 @@ use Rattle.rehearsal.specs.Plays.{play_quietly, play_step, play_call}
 use Rattle.rehearsal.specs.View.{play_end, state_of}
 
 abbrev pub by_simulated : Host.Ghosts SimulatedHost
-by_simulated = record { MOST = 16; book = λ h. Simulated.book_of (Simulated.view h); did = Simulated.Did }
+by_simulated = record { most = 16; book = λ h. Simulated.book_of (Simulated.view h); did = Simulated.Did }
 
 abbrev pub by_absent : Terminal.Ghosts AbsentTerminal
 by_absent = record { book = Absent.book_of; did = Absent.Did }

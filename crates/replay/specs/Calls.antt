@@ -24,7 +24,7 @@ abbrev pub moment : Run → Moment (PreparedHost (Vec ℤ Global)) SimulatedTerm
 moment r = record { job = r.job; host = r.host; terminal = r.session.terminal; sheet = r.sheet }
 
 abbrev pub by_prepared : Host.Ghosts (PreparedHost (Vec ℤ Global))
-by_prepared = record { MOST = 1; book = λ h. Prepared.book_of (Prepared.view (λ v. v.items) h); did = Prepared.Did (λ v. v.items) }
+by_prepared = record { most = 1; book = λ h. Prepared.book_of (Prepared.view (λ v. v.items) h); did = Prepared.Did (λ v. v.items) }
 
 abbrev pub by_simulated : Terminal.Ghosts SimulatedTerminal
 by_simulated = record { book = λ t. Simulated.book_of (Simulated.view t); did = Simulated.Did }

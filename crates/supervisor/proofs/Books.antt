@@ -16,7 +16,7 @@ module _ {S B : Type 0} (did : S → (c : Call) → Reply c → S → Type 0) (b
 
 -- each call keeps the rules of its book
 abbrev pub HostKept : {H : Type 0} → Host.Ghosts H → Type 0
-HostKept {H} by_host = (h : H) (c : HostCall) (a : HostReply c) (k : H) → by_host.did h c a k → HostKeeps by_host.MOST (by_host.book h) c a (by_host.book k)
+HostKept {H} by_host = (h : H) (c : HostCall) (a : HostReply c) (k : H) → by_host.did h c a k → HostKeeps by_host.most (by_host.book h) c a (by_host.book k)
 
 abbrev pub TerminalKept : {T : Type 0} → Terminal.Ghosts T → Type 0
 TerminalKept {T} by_terminal = (t : T) (c : TerminalCall) (a : TerminalReply c) (u : T) → by_terminal.did t c a u → TerminalKeeps (by_terminal.book t) c a
