@@ -21,7 +21,8 @@ pub trait Host {
     // Holds of the host before a call, the call with its arguments, its answer, and the host after it.
     ghost did: { Self → (c : HostCall) → HostReply c → Self → Type 0 };
 
-    // `MOST` as clauses name it. A constant that a clause names can't be given by an impl with a lifetime of its own.
+    // The number that clauses call `most`. They don't name the constant itself, since an impl with
+    // a lifetime of its own couldn't give it then.
     fn capacity() -> usize
         ensures { result ≡ most };
 
